@@ -21,6 +21,7 @@
 #include <limits.h>
 #include <stdlib.h>
 #include <string.h>
+#include <sys/random.h>
 #include <time.h>
 
 #define CHECK_SEQUENCE 2 /* octets that libpri adds to the length of each frame, and ignores */
@@ -99,14 +100,17 @@ bool get_state(struct channel *channel, const struct q921_link *link, lapd_link_
 	return lapd_side_state(&channel->side, Q921_SAPI_CALL_CTRL, tei, state) == LAPD_DONE;
 }
 
-/* Copies the state of the side's link. A terminal without a TEI has no such link, and keeps its
- * state. */
+/* Copies the state of the side's link or, if a terminal has no TEI and so no link, that of the
+ * terminal. On a network a link whose TEI was removed keeps its state. */
 static void copy_state(struct channel *channel, struct q921_link *link)
 {
 	lapd_link_state state;
+	uint8_t terminal, tei;
 
 	if (get_state(channel, link, &state))
 		set_state(link, state.state);
+	else if (lapd_side_tei(&channel->side, &terminal, &tei) == LAPD_DONE && terminal > 0)
+		set_state(link, terminal);
 }
 
 /* ---- Sending. */
@@ -132,22 +136,6 @@ static void send_frames(struct channel *channel)
 
 	while (!lapd_side_frame(&channel->side, octets, LAPD_MOST_FRAME, &count) && count > 0)
 		send_frame(channel->ctrl, octets, count);
-}
-
-/* Sends Identity Remove for a TEI, or for all if it is 127, twice in case one is lost (Q.921
- * 5.3.2). liblapd has no request for this. */
-static void send_remove(struct pri *ctrl, int tei)
-{
-	int times;
-
-	for (times = 0; times < 2; times++) {
-		uint8_t octets[8 + CHECK_SEQUENCE] = {
-			0xfe, 0xff, 0x03, 0x0f, 0, 0,
-			Q921_TEI_IDENTITY_REMOVE, (uint8_t)(tei << 1 | 1),
-		};
-
-		send_frame(ctrl, octets, 8);
-	}
 }
 
 /* ---- Timers. */
@@ -205,32 +193,58 @@ static lapd_settings settings_of(const struct pri *ctrl)
 	return settings;
 }
 
-/* A seed that differs between terminals on one bus, also if their programs never call srandom. */
-static uint64_t new_seed(const struct channel *channel)
+/* Draws a seed from the system, so that terminals on one bus request TEIs with different references
+ * (Ri). */
+static bool draw_seed(struct pri *ctrl, uint64_t *seed)
 {
-	return (uint64_t)random() << 32 ^ (uint64_t)(uintptr_t)channel ^ clock_now();
+	if (getrandom(seed, sizeof *seed, 0) == (ssize_t)sizeof *seed)
+		return true;
+	pri_error(ctrl, "Layer 2 was not created: no random numbers: %s\n", strerror(errno));
+	return false;
 }
 
-/* Creates the side, or creates it again if the program has changed a timer since. */
-static void create_side(struct channel *channel)
+/* Creates the side in place of the present one, if any, which stays if this fails. */
+static bool create_side(struct channel *channel)
 {
 	static const uint8_t tei_0[] = { 0 };
 	lapd_settings settings = settings_of(channel->ctrl);
 	bool is_ptp = PTP_MODE(channel->ctrl);
-	uint32_t code;
+	lapd_result code;
 
-	settings.seed = channel->is_created ? channel->settings.seed : new_seed(channel);
-	if (channel->is_created && memcmp(&settings, &channel->settings, sizeof settings) == 0)
-		return;
+	if (!draw_seed(channel->ctrl, &settings.seed))
+		return false;
 	if (NT_MODE(channel->ctrl))
 		code = lapd_side_network(&channel->side, &settings, tei_0, is_ptp ? 1 : 0);
 	else
 		code = lapd_side_user(&channel->side, &settings, is_ptp ? 0 : LAPD_NO_TEI);
-	if (code == LAPD_DONE)
-		channel->settings = settings;
-	else
-		pri_error(channel->ctrl, "Layer 2 was not created: code %u\n", code);
+	if (code != LAPD_DONE) {
+		pri_error(channel->ctrl, "Layer 2 was not created: %s\n", lapd_code_string(code));
+		return false;
+	}
+	channel->n200 = settings.n200;
+	channel->k = settings.k0;
 	channel->is_created = true;
+	return true;
+}
+
+/* Passes T200 to T203 to the side, as the program may have changed them: libpri does not report
+ * that. They apply to timers that are started from now on. */
+static void set_timers(struct channel *channel)
+{
+	lapd_settings it = settings_of(channel->ctrl);
+
+	lapd_side_set_timers(&channel->side, it.t200, it.t201, it.t202, it.t203);
+}
+
+/* Follows a change of N200 or K. liblapd has no call for them, so a point to point side is created
+ * again when its link is to be established; its primitives must have been fetched by then. */
+static void follow_limits(struct channel *channel)
+{
+	lapd_settings it = settings_of(channel->ctrl);
+	bool is_new = it.n200 != channel->n200 || it.k0 != channel->k;
+
+	if (is_new && PTP_MODE(channel->ctrl) && !channel->is_delivering)
+		create_side(channel);
 }
 
 static void stop_restart(struct q921_link *link)
@@ -239,25 +253,18 @@ static void stop_restart(struct q921_link *link)
 	link->restart_timer = 0;
 }
 
-/* Establishes a link that is down. The settings of a side cannot change, so a point to point side
- * is created again if they have; its primitives must have been fetched by then. */
+/* Establishes a link that is down. */
 static void establish(struct channel *channel, struct q921_link *link)
 {
 	lapd_link_state state;
-	bool has_tei = get_state(channel, link, &state);
 	uint8_t tei = address(link);
 
 	stop_restart(link);
-	if (has_tei && state.state != Q921_TEI_ASSIGNED)
+	if (get_state(channel, link, &state) && state.state != Q921_TEI_ASSIGNED)
 		return;
-	if (PTP_MODE(channel->ctrl) && !channel->is_delivering)
-		create_side(channel);
-	if (lapd_side_establish(&channel->side, Q921_SAPI_CALL_CTRL, tei, clock_now()) != LAPD_DONE)
-		return;
-	if (has_tei)
+	follow_limits(channel);
+	if (lapd_side_establish(&channel->side, Q921_SAPI_CALL_CTRL, tei, clock_now()) == LAPD_DONE)
 		copy_state(channel, link);
-	else
-		set_state(link, Q921_ESTABLISH_AWAITING_TEI);
 }
 
 static void on_restart(void *of)
@@ -266,6 +273,7 @@ static void on_restart(void *of)
 	struct channel *channel = channel_of(link->ctrl);
 
 	link->restart_timer = 0;
+	set_timers(channel);
 	establish(channel, link);
 	finish(channel);
 }
@@ -289,7 +297,7 @@ static void request_tei(struct channel *channel, struct q921_link *link)
 		return;
 	}
 	lapd_side_ask_tei(&channel->side, clock_now());
-	set_state(link, Q921_ASSIGN_AWAITING_TEI);
+	copy_state(channel, link);
 }
 
 static void on_network_up(void *of)
@@ -300,49 +308,51 @@ static void on_network_up(void *of)
 	ctrl->ev.gen.e = PRI_EVENT_DCHAN_UP;
 }
 
-/* Creates the side at the first timer, frame or request, and not in q921_start, so that it has the
- * timers and debug flags that a program sets after pri_new. */
 static void start_side(struct channel *channel)
 {
 	struct pri *ctrl = channel->ctrl;
 
-	if (channel->is_created)
+	if (!create_side(channel))
 		return;
-	create_side(channel);
 	if (PTP_MODE(ctrl)) {
 		establish(channel, &ctrl->link);
 	} else if (TE_MODE(ctrl)) {
 		request_tei(channel, ctrl->link.next);
 	} else {
-		send_remove(ctrl, Q921_TEI_GROUP);
+		lapd_side_remove_all(&channel->side, clock_now());
 		pri_schedule_event(ctrl, 0, on_network_up, ctrl);
 	}
 }
 
+/* Prepares the side for a timer, a frame or a request. The first of them creates it, and q921_start
+ * does not, so that it has the settings and debug flags that a program sets after pri_new. */
+static void prepare_side(struct channel *channel)
+{
+	if (channel->is_created)
+		set_timers(channel);
+	else
+		start_side(channel);
+}
+
 /* ---- TEIs. */
 
-/* Checks the next TEI that needs it. The side runs one check at a time, and ignores others. */
+/* Checks the next TEI that needs it. The side runs one check at a time, and refuses others. */
 static void check_next_tei(struct channel *channel)
 {
 	struct q921_link *link = channel->ctrl->link.next;
 
-	if (channel->checked_tei)
-		return;
 	while (link && link->tei_check == Q921_TEI_CHECK_NONE)
 		link = link->next;
-	if (!link)
-		return;
-	channel->checked_tei = link->tei;
-	lapd_side_check_tei(&channel->side, (uint8_t)link->tei, clock_now());
+	if (link)
+		lapd_side_check_tei(&channel->side, (uint8_t)link->tei, clock_now());
 }
 
-/* A check has ended. If the TEI was removed, the primitives of its link follow, and only then is
- * the link destroyed. */
+/* A check has ended, or a TEI was removed. The primitives of its link follow, and only then is the
+ * link destroyed. */
 static void end_check(struct channel *channel, int tei, bool is_removed)
 {
 	struct q921_link *link = link_of(channel->ctrl, tei);
 
-	channel->checked_tei = 0;
 	if (!link)
 		return;
 	link->tei_check = Q921_TEI_CHECK_NONE;
@@ -402,28 +412,32 @@ static void link_down(struct q921_link *link, enum Q931_DL_EVENT event)
 	q931_dl_event(link, event);
 }
 
-/* The terminal's TEI is lost. If the network removed it, the terminal requests another, as in
- * libpri. If the terminal drops it after an error, the side is created again, since it has no
- * request for that. */
+/* The terminal drops its TEI after an error. LAPD_TEI_GONE and a primitive of its link follow. */
+static void drop_tei(struct channel *channel, struct q921_link *link)
+{
+	lapd_result code = lapd_side_remove_tei(&channel->side, address(link), clock_now());
+
+	if (code == LAPD_DONE)
+		channel->drops_tei = true;
+	else if (code != LAPD_NO_LINK) /* its TEI is lost already */
+		pri_error(channel->ctrl, "TEI=%d was not dropped: %s\n", link->tei,
+			lapd_code_string(code));
+}
+
+/* The terminal has lost its TEI. If the network removed it, the terminal requests another, as in
+ * libpri. If the terminal dropped it, the next establishment requests one. */
 static void lose_tei(struct channel *channel)
 {
 	struct q921_link *link = channel->ctrl->link.next;
-	lapd_link_state state;
-	bool drops_it = get_state(channel, link, &state);
+	bool is_dropped = channel->drops_tei;
 
-	channel->loses_tei = false;
-	if (drops_it && state.state > Q921_TEI_ASSIGNED)
-		link_down(link, Q931_DL_EVENT_DL_RELEASE_IND);
+	channel->loses_tei = channel->drops_tei = false;
 	if (link->tei > 0)
 		link->tei = -link->tei;
-	set_state(link, Q921_TEI_UNASSIGNED);
+	copy_state(channel, link);
 	q931_dl_event(link, Q931_DL_EVENT_TEI_REMOVAL);
-	if (drops_it) {
-		channel->is_created = false;
-		create_side(channel);
-	} else {
+	if (!is_dropped)
 		request_tei(channel, link);
-	}
 }
 
 static pri_event *tei_event(struct channel *channel, const lapd_primitive *primitive)
@@ -443,7 +457,7 @@ static pri_event *tei_event(struct channel *channel, const lapd_primitive *primi
 	case LAPD_TEI_FAILED:
 		if (!keeps_up(ctrl))
 			pri_error(ctrl, "Unable to receive TEI from network!\n");
-		set_state(link, Q921_TEI_UNASSIGNED);
+		copy_state(channel, link);
 		restart_later(link);
 		break;
 	case LAPD_TEI_GIVEN:
@@ -474,7 +488,7 @@ static void mdl_error(struct channel *channel, struct q921_link *link, char lett
 	if (!PTMP_MODE(ctrl) || !strchr("CDGH", letter))
 		return;
 	if (TE_MODE(ctrl))
-		channel->loses_tei = true;
+		drop_tei(channel, link);
 	else
 		link->tei_check = Q921_TEI_CHECK_DEAD;
 }
@@ -598,7 +612,7 @@ static void on_time(void *of)
 	uint8_t expired;
 
 	channel->event = 0;
-	start_side(channel);
+	prepare_side(channel);
 	while (lapd_side_tick(&channel->side, clock_now(), &expired) == LAPD_DONE && expired)
 		;
 	if (deliver(channel))
@@ -632,7 +646,7 @@ void q921_bring_layer2_up(struct pri *ctrl)
 
 	if (!channel)
 		return;
-	start_side(channel);
+	prepare_side(channel);
 	for (link = first_link(ctrl); link; link = PTMP_MODE(ctrl) ? link->next : NULL)
 		if (!link->restart_timer)
 			establish(channel, link);
@@ -642,15 +656,16 @@ void q921_bring_layer2_up(struct pri *ctrl)
 int q921_transmit_uiframe(struct q921_link *link, void *buf, int len)
 {
 	struct channel *channel = channel_of(link->ctrl);
-	uint32_t code;
+	lapd_result code;
 
 	if (!channel)
 		return -1;
-	start_side(channel);
+	prepare_side(channel);
 	code = lapd_side_unit(&channel->side, Q921_SAPI_CALL_CTRL, address(link), buf,
 		(size_t)len, clock_now());
 	if (code != LAPD_DONE)
-		pri_error(link->ctrl, "TEI=%d Unit data was not sent: code %u\n", link->tei, code);
+		pri_error(link->ctrl, "TEI=%d Unit data was not sent: %s\n", link->tei,
+			lapd_code_string(code));
 	finish(channel);
 	return code == LAPD_DONE ? 0 : -1;
 }
@@ -671,7 +686,7 @@ int q921_transmit_iframe(struct q921_link *link, void *buf, int len, int cr)
 		pri_error(ctrl, "Out of memory for a message to layer 2\n");
 		return -1;
 	}
-	start_side(channel);
+	prepare_side(channel);
 	if (ctrl->debug & PRI_DEBUG_Q931_DUMP)
 		q931_dump(ctrl, link->tei, (q931_h *)frame->h.data, len, 1);
 	if (submit_messages(channel, link) == LAPD_NOT_ESTABLISHED)
@@ -701,9 +716,11 @@ static pri_event *same_role(struct pri *ctrl, const uint8_t *octets)
 		: "We think we're the CPE, but they think they're the CPE too.\n");
 }
 
-/* A frame of a terminal that had its TEI before this network started. */
-static bool is_of_unknown_tei(struct pri *ctrl, int sapi, int tei)
+/* Whether the frame is of a terminal that had its TEI before this network started. */
+static bool is_of_unknown_tei(struct pri *ctrl, const uint8_t *octets)
 {
+	int sapi = octets[0] >> 2, tei = octets[1] >> 1;
+
 	return BRI_NT_PTMP(ctrl) && sapi == Q921_SAPI_CALL_CTRL && tei >= Q921_TEI_AUTO_FIRST
 		&& tei != Q921_TEI_GROUP && !link_of(ctrl, tei);
 }
@@ -712,14 +729,8 @@ static bool is_of_unknown_tei(struct pri *ctrl, int sapi, int tei)
  * terminal only answers checks. */
 static bool is_left_out(struct pri *ctrl, const uint8_t *octets, int length)
 {
-	int sapi = octets[0] >> 2, tei = octets[1] >> 1;
-
-	if (sapi == Q921_SAPI_LAYER2_MANAGEMENT)
-		return PTP_MODE(ctrl) && !(TE_MODE(ctrl) && is_check_request(octets, length));
-	if (!is_of_unknown_tei(ctrl, sapi, tei))
-		return false;
-	send_remove(ctrl, tei);
-	return true;
+	return PTP_MODE(ctrl) && octets[0] >> 2 == Q921_SAPI_LAYER2_MANAGEMENT
+		&& !(TE_MODE(ctrl) && is_check_request(octets, length));
 }
 
 pri_event *q921_receive(struct pri *ctrl, q921_h *h, int len)
@@ -727,20 +738,23 @@ pri_event *q921_receive(struct pri *ctrl, q921_h *h, int len)
 	struct channel *channel = channel_of(ctrl);
 	const uint8_t *octets = (const uint8_t *)h;
 	pri_event *event;
-	uint32_t code;
+	lapd_result code;
 
 	len -= CHECK_SEQUENCE;
 	ctrl->q921_rxcount++;
 	if (!channel || len < 3)
 		return NULL;
-	start_side(channel);
+	prepare_side(channel);
 	if (ctrl->debug & (PRI_DEBUG_Q921_DUMP | PRI_DEBUG_Q921_RAW))
 		q921_dump(ctrl, h, len, ctrl->debug, 0);
 	event = same_role(ctrl, octets);
 	if (event || is_left_out(ctrl, octets, len))
 		return event;
-	code = lapd_side_take(&channel->side, octets, (size_t)len, clock_now());
+	if (is_of_unknown_tei(ctrl, octets))
+		code = lapd_side_remove_tei(&channel->side, octets[1] >> 1, clock_now());
+	else
+		code = lapd_side_take(&channel->side, octets, (size_t)len, clock_now());
 	if (code != LAPD_DONE)
-		pri_error(ctrl, "A frame was not processed: code %u\n", code);
+		pri_error(ctrl, "A frame was not processed: %s\n", lapd_code_string(code));
 	return deliver(channel);
 }

@@ -24,16 +24,16 @@
 struct channel {
 	struct pri *ctrl;
 	lapd_side side;
-	lapd_settings settings; /* of the side */
+	uint8_t n200, k;        /* of the side */
 	unsigned int event;     /* libpri's number of the scheduled event, or 0 */
 	uint64_t due;           /* when it is due */
 	bool is_created;        /* the side exists */
 	bool is_delivering;     /* its primitives are being fetched */
 	bool is_up;             /* point to point: the program has received DCHAN_UP */
 	bool has_next_event;    /* another event waits for the program */
-	bool loses_tei;         /* terminal: its TEI is to be dropped */
+	bool loses_tei;         /* terminal: its TEI is lost */
+	bool drops_tei;         /* terminal: it drops its TEI by itself */
 	bool loses_links;       /* network: TEIs were removed, their links are to be destroyed */
-	int checked_tei;        /* network: the TEI of the running check, or 0 */
 };
 
 /* The channel of a struct pri, or NULL if q921_start has not made one. */
@@ -58,7 +58,7 @@ struct q921_frame *queue_message(struct q921_link *link, const void *message, in
 
 /* Submits waiting messages to the side until it accepts no more, and returns its last code. A
  * message that is too long is reported and dropped. */
-uint32_t submit_messages(struct channel *channel, struct q921_link *link);
+lapd_result submit_messages(struct channel *channel, struct q921_link *link);
 
 /* Frees the oldest `count` messages of a link's queue. */
 void free_messages(struct q921_link *link, unsigned int count);

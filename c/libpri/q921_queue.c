@@ -26,7 +26,7 @@ struct q921_frame *queue_message(struct q921_link *link, const void *message, in
 	return frame;
 }
 
-static uint32_t submit(struct channel *channel, struct q921_link *link, struct q921_frame *frame)
+static lapd_result submit(struct channel *channel, struct q921_link *link, struct q921_frame *frame)
 {
 	size_t length = (size_t)frame->len - I_HEADER;
 
@@ -34,10 +34,10 @@ static uint32_t submit(struct channel *channel, struct q921_link *link, struct q
 		length, clock_now());
 }
 
-uint32_t submit_messages(struct channel *channel, struct q921_link *link)
+lapd_result submit_messages(struct channel *channel, struct q921_link *link)
 {
 	struct q921_frame *frame, **place = &link->tx_queue;
-	uint32_t code = LAPD_DONE;
+	lapd_result code = LAPD_DONE;
 
 	while ((frame = *place) && code == LAPD_DONE) {
 		if (frame->status == Q921_TX_FRAME_NEVER_SENT)

@@ -1,11 +1,13 @@
 /* One end of a D channel, by the libpri.so.1.4 that the loader finds.
  *
  * usage: end net|cpe pri|ptp|ptmp SOCKET CALLS IDLE [pause=MS] [hold=MS] [t203=MS] [t309=MS]
+ *            [later=MS]
  *
  * It makes CALLS calls, one after another with a pause between them, holds each for some time, and
- * answers the calls of the other end. It ends IDLE milliseconds after its last call, or when the
- * other end closes the socket; with IDLE -1 only then. It prints each event with its time, and a
- * last line of counts. The status is 0 if each of its calls was answered. */
+ * answers the calls of the other end. It sets T203 to `later` when the link is up. It ends IDLE
+ * milliseconds after its last call, or when the other end closes the socket; with IDLE -1 only then.
+ * It prints each event with its time, and a last line of counts. The status is 0 if each of its
+ * calls was answered. */
 #include <libpri.h>
 #include <poll.h>
 #include <stdbool.h>
@@ -24,7 +26,7 @@
 static struct {
 	const char *name;
 	bool is_network, is_basic, is_bus;
-	int calls, idle, pause, hold, t203, t309;
+	int calls, idle, pause, hold, t203, t309, later;
 } options;
 
 static struct {
@@ -96,6 +98,8 @@ static void on_event(struct pri *pri, pri_event *event)
 	switch (event->e) {
 	case PRI_EVENT_DCHAN_UP:
 		count.up++;
+		if (options.later)
+			pri_set_timer(pri, PRI_TIMER_T203, options.later);
 		break;
 	case PRI_EVENT_DCHAN_DOWN:
 		count.down++;
@@ -180,6 +184,7 @@ static void read_options(char **words)
 		sscanf(*words, "hold=%d", &options.hold);
 		sscanf(*words, "t203=%d", &options.t203);
 		sscanf(*words, "t309=%d", &options.t309);
+		sscanf(*words, "later=%d", &options.later);
 	}
 }
 
