@@ -234,7 +234,8 @@ typedef struct lapd_link_counters {
 uint32_t lapd_version(void);
 
 /* Creates a network side that holds `count` TEIs, each 0 to 126, whose links exist from the start;
- * other TEIs are assigned on request. Frees the side that the handle owned.
+ * other TEIs are assigned on request. A TEI that is listed twice counts once. Frees the side that
+ * the handle owned.
  * LAPD_OUT_OF_RANGE, LAPD_NO_MEMORY: the handle is unchanged. */
 lapd_result lapd_side_network(lapd_side *side, const lapd_settings *settings, const uint8_t *teis,
 	size_t count);

@@ -18,7 +18,7 @@ diff - out/files <<END
 ./usr/lib64/liblapd.so.$version
 ./usr/lib64/pkgconfig/lapd.pc
 END
-grep -q '^libdir=/usr/lib64$' "$lib/pkgconfig/lapd.pc"
+grep -q '^libdir=[$]{prefix}/lib64$' "$lib/pkgconfig/lapd.pc"
 ${CC:-cc} -I"$place/usr/include" -o out/with_shared two_sides.c -L"$lib" -llapd
 LD_LIBRARY_PATH=$lib ldd out/with_shared | grep -q "liblapd.so.$major => $lib/"
 LD_LIBRARY_PATH=$lib out/with_shared | diff - tests/two_sides.out

@@ -156,11 +156,11 @@ static void a_primitive(lapd_side *side, unsigned kind, const uint8_t *wanted, s
 static void a_link(lapd_side *side)
 {
 	const lapd_settings basic = LAPD_BASIC;
-	const uint8_t tei = 64;
+	const uint8_t twice[] = { 64, 64 };
 	lapd_link_state link;
 	size_t length;
 
-	DONE(lapd_side_network(side, &basic, &tei, 1));
+	DONE(lapd_side_network(side, &basic, twice, 2));
 	ranges(side);
 	all_are_out_of_range(side);
 	DONE(lapd_side_state(side, 0, 64, &link));
