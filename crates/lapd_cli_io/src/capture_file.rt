@@ -15,8 +15,16 @@ use std::io::{self, Write};
 pub(crate) enum CaptureFile<'rt> {
     /// pcap: no frame is ever missing in a regular file.
     Pcap(CaptureWriter<RecordFile<'rt>>),
-    /// pcapng, of which a reader may pause. The side is the one that captures.
-    Pcapng(Side, RecordFile<'rt>),
+    /// pcapng, of which a reader may pause.
+    Pcapng(BlockFile<'rt>),
+}
+
+/// A file of blocks.
+#[derive(Drop)]
+pub(crate) struct BlockFile<'rt> {
+    /// The side that captures.
+    own: Side,
+    file: RecordFile<'rt>,
 }
 
 impl<'rt> CaptureFile<'rt> {
@@ -35,7 +43,7 @@ impl<'rt> CaptureFile<'rt> {
         let mut file = RecordFile::new(rt, notes, "capture", path, file);
         if file.has_reader() {
             file.begin(&BLOCKS_HEADER)?;
-            return Ok(CaptureFile::Pcapng(own, file));
+            return Ok(CaptureFile::Pcapng(BlockFile { own, file }));
         }
         let writer = CaptureWriter::new(own, file)?;
         Ok(CaptureFile::Pcap(writer))
@@ -51,7 +59,7 @@ impl<'rt> CaptureFile<'rt> {
     {
         match self {
             CaptureFile::Pcap(writer) => writer.write(from, moment, frame),
-            CaptureFile::Pcapng(own, file) => record_block(*own, file, from, moment, frame),
+            CaptureFile::Pcapng(blocks) => blocks.record(from, moment, frame),
         }
     }
 
@@ -59,27 +67,23 @@ impl<'rt> CaptureFile<'rt> {
     pub(crate) fn close(&mut self) {
         match self {
             CaptureFile::Pcap(_) => {}
-            CaptureFile::Pcapng(_, file) => file.close(),
+            CaptureFile::Pcapng(blocks) => blocks.file.close(),
         }
     }
 }
 
-/// Records a frame as a block of pcapng, with the number of frames that are missing before it.
-fn record_block(
-    own: Side,
-    file: &mut RecordFile<'_>,
-    from: Side,
-    moment: u64,
-    frame: &[u8],
-) -> io::Result<()>
-    requires { length frame.now ≤ MOST_FRAME }
-{
-    let Some(place) = file.next(moment) else {
-        return Ok(());
-    };
-    if place.is_new {
-        file.begin_with(&BLOCKS_HEADER)?;
+impl BlockFile<'_> {
+    /// Records a frame as a block, with the number of frames that are missing before it.
+    fn record(&mut self, from: Side, moment: u64, frame: &[u8]) -> io::Result<()>
+        requires { length frame.now ≤ MOST_FRAME }
+    {
+        let Some(place) = self.file.next(moment) else {
+            return Ok(());
+        };
+        if place.is_new {
+            self.file.begin_with(&BLOCKS_HEADER)?;
+        }
+        let block = block_of(self.own, from, moment, place.missing, frame);
+        self.file.write_all(block.as_slice())
     }
-    let block = block_of(own, from, moment, place.missing, frame);
-    file.write_all(block.as_slice())
 }

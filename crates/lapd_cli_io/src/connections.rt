@@ -21,7 +21,7 @@ use lapd_cli_line::{
 use lapd_cli_script::port_reason;
 use lapd_frame::Side;
 use lapd_port::PortFault;
-use lapd_table::{LinkId, LinkTable};
+use lapd_table::{LinkId, LinkTable, Sapi, Tei};
 use lapd_tei::{Assigner, TeiKind, TeiMessage};
 use lapd_tei_audit::AuditStep;
 use lapd_timers::earlier;
@@ -314,11 +314,19 @@ impl<'a> Connections<'a> {
 
     /// Notes a discarded frame, if it is the first one of its address.
     fn note_discarded(&mut self, id: LinkId) {
-        if let Some(bus) = &mut self.bus {
-            bus.discard(id);
+        match id.sapi {
+            Sapi::Call | Sapi::Packet => self.see_discarded(id.tei),
+            Sapi::Management => {}
         }
         if let Some(discard) = self.discards.add(id) {
             self.notes.print(discard);
+        }
+    }
+
+    /// Records a discarded frame of a link of this TEI.
+    fn see_discarded(&mut self, tei: Tei) {
+        if let Some(bus) = &mut self.bus {
+            bus.discard(tei);
         }
     }
 

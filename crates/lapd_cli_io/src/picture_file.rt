@@ -1,5 +1,7 @@
 //! The file of a picture, which gets its name when the picture is complete.
 
+ghost use Rattle.std.specs.Io.{WritesAtMost};
+
 use std::fs::{self, File, Metadata, OpenOptions};
 use std::io::{self, ErrorKind, Write};
 use std::path::Path;
@@ -75,7 +77,9 @@ impl<'a> PictureFile<'a> {
     }
 
     /// Writes into the file, which is made if it is not open.
-    fn put(&mut self, octets: &[u8]) -> io::Result<usize> {
+    fn put(&mut self, octets: &[u8]) -> io::Result<usize>
+        ensures { WritesAtMost result octets.now }
+    {
         match &mut self.begun {
             Some(begun) => begun.file.write(octets),
             None => {

@@ -4,7 +4,7 @@
 use crate::auditor::Auditor;
 use crate::repeated::Repeated;
 use crate::ties::{Ties, is_denial};
-use lapd_table::{LinkId, LinkTable, Sapi, Tei};
+use lapd_table::{LinkTable, Tei};
 use lapd_tei::Assigner;
 use lapd_tei_audit::{AuditStep, UsedTei, used_tei};
 
@@ -73,14 +73,27 @@ impl SharedBus {
     /// It uses a TEI that is tied to another connection: the side must not receive it.
     pub fn receive(&mut self, octets: &[u8], place: usize) -> Result<(), ForeignUse> {
         let used = used_tei(octets);
-        if let Some(ties) = &mut self.ties {
-            ties.admit(used, place)?;
-            ties.receive(octets, place);
-        }
-        if let (UsedTei::Answer(tei), Some(auditor)) = (used, &mut self.auditor) {
-            auditor.count_answer(tei);
+        self.tie(used, octets, place)?;
+        match used {
+            UsedTei::Answer(tei) => self.count_answer(tei),
+            UsedTei::Link(_) | UsedTei::Nothing => {}
         }
         Ok(())
+    }
+
+    /// Ties the TEI that a frame uses to the connection at this place.
+    fn tie(&mut self, used: UsedTei, octets: &[u8], place: usize) -> Result<(), ForeignUse> {
+        match &mut self.ties {
+            Some(ties) => ties.take(used, octets, place),
+            None => Ok(()),
+        }
+    }
+
+    /// Counts an answer to a check of this TEI.
+    fn count_answer(&mut self, tei: Tei) {
+        if let Some(auditor) = &mut self.auditor {
+            auditor.count_answer(tei);
+        }
     }
 
     /// Records a frame that the side sends. Returns whether it denies a request for a TEI.
@@ -91,10 +104,10 @@ impl SharedBus {
         is_denial(octets)
     }
 
-    /// The side discarded a frame: it has no such link.
-    pub fn discard(&mut self, id: LinkId) {
-        if let (Sapi::Call | Sapi::Packet, Some(auditor)) = (id.sapi, &mut self.auditor) {
-            auditor.see(id.tei);
+    /// The side discarded a frame of a link of this TEI, which it does not have.
+    pub fn discard(&mut self, tei: Tei) {
+        if let Some(auditor) = &mut self.auditor {
+            auditor.see(tei);
         }
     }
 

@@ -28,12 +28,20 @@ impl Ties {
         }
     }
 
-    /// The connection at this place uses a TEI. If the TEI is not tied, it is tied to it.
+    /// Records a frame that the connection at this place sent, and the TEI that it uses. If the TEI
+    /// is not tied, it is tied to the connection.
     ///
     /// # Errors
     ///
     /// The TEI is tied to another connection.
-    pub fn admit(&mut self, used: UsedTei, place: usize) -> Result<(), ForeignUse> {
+    pub fn take(&mut self, used: UsedTei, octets: &[u8], place: usize) -> Result<(), ForeignUse> {
+        self.admit(used, place)?;
+        self.receive(octets, place);
+        Ok(())
+    }
+
+    /// The connection at this place uses a TEI. If the TEI is not tied, it is tied to it.
+    fn admit(&mut self, used: UsedTei, place: usize) -> Result<(), ForeignUse> {
         let tei = match used {
             UsedTei::Link(tei) | UsedTei::Answer(tei) => tei,
             UsedTei::Nothing => return Ok(()),
@@ -51,7 +59,7 @@ impl Ties {
     }
 
     /// Records a frame that the terminal at this place sent, if it requests a TEI.
-    pub fn receive(&mut self, octets: &[u8], place: usize) {
+    fn receive(&mut self, octets: &[u8], place: usize) {
         if let Some(message) = message_in(octets, Side::User) {
             if let (TeiKind::Request, Some(requested)) = (
                 message.kind,
