@@ -73,7 +73,7 @@ impl SharedBus {
     /// It uses a TEI that is tied to another connection: the side must not receive it.
     pub fn receive(&mut self, octets: &[u8], place: usize) -> Result<(), ForeignUse> {
         let used = used_tei(octets);
-        self.tie(used, octets, place)?;
+        self.tie(&used, octets, place)?;
         match used {
             UsedTei::Answer(tei) => self.count_answer(tei),
             UsedTei::Link(_) | UsedTei::Nothing => {}
@@ -82,7 +82,7 @@ impl SharedBus {
     }
 
     /// Ties the TEI that a frame uses to the connection at this place.
-    fn tie(&mut self, used: UsedTei, octets: &[u8], place: usize) -> Result<(), ForeignUse> {
+    fn tie(&mut self, used: &UsedTei, octets: &[u8], place: usize) -> Result<(), ForeignUse> {
         match &mut self.ties {
             Some(ties) => ties.take(used, octets, place),
             None => Ok(()),

@@ -34,16 +34,16 @@ impl Ties {
     /// # Errors
     ///
     /// The TEI is tied to another connection.
-    pub fn take(&mut self, used: UsedTei, octets: &[u8], place: usize) -> Result<(), ForeignUse> {
+    pub fn take(&mut self, used: &UsedTei, octets: &[u8], place: usize) -> Result<(), ForeignUse> {
         self.admit(used, place)?;
         self.receive(octets, place);
         Ok(())
     }
 
     /// The connection at this place uses a TEI. If the TEI is not tied, it is tied to it.
-    fn admit(&mut self, used: UsedTei, place: usize) -> Result<(), ForeignUse> {
+    fn admit(&mut self, used: &UsedTei, place: usize) -> Result<(), ForeignUse> {
         let tei = match used {
-            UsedTei::Link(tei) | UsedTei::Answer(tei) => tei,
+            UsedTei::Link(tei) | UsedTei::Answer(tei) => *tei,
             UsedTei::Nothing => return Ok(()),
         };
         let Some(tied) = self.places.get_mut(usize::from(tei.value())) else {
