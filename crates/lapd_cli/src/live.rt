@@ -76,7 +76,7 @@ fn tapped_line<'a>(
     notes: &'a Notes<'a>,
     side: Side,
     setup: &SideSetup<'_>,
-    options: &LiveOptions<'a>,
+    options: &LiveOptions<'_>,
     seed: u64,
 ) -> Result<Line<'a>, Stop> {
     let mut taps = Taps::open(rt, notes, side, &tap_setup(options)).map_err(stop_of_taps)?;

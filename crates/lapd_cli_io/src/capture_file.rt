@@ -37,7 +37,7 @@ impl<'rt> CaptureFile<'rt> {
         rt: &'rt HostRuntime,
         notes: &'rt Notes<'rt>,
         own: Side,
-        path: &'rt str,
+        path: String,
         file: File,
     ) -> io::Result<CaptureFile<'rt>> {
         let mut file = RecordFile::new(rt, notes, "capture", path, file);

@@ -6,8 +6,8 @@ use std::io::{self, ErrorKind};
 
 /// A file that is open for writing. A regular file keeps what it had until it is begun.
 #[derive(Drop)]
-pub(crate) struct GrowingFile<'a> {
-    path: &'a str,
+pub(crate) struct GrowingFile {
+    path: String,
     file: File,
     /// Whether it is a regular file.
     is_regular: bool,
@@ -24,14 +24,10 @@ pub enum NoFile {
     Protected(Protection),
 }
 
-impl<'a> GrowingFile<'a> {
+impl GrowingFile {
     /// Opens this file for such a content, and makes it if it does not exist. Waits for the reader
     /// of a named pipe.
-    pub fn open(
-        rt: &HostRuntime,
-        path: &'a str,
-        content: Content,
-    ) -> Result<GrowingFile<'a>, NoFile> {
+    pub fn open(rt: &HostRuntime, path: &str, content: Content) -> Result<GrowingFile, NoFile> {
         if let Some(stream) = stream_into(rt, path) {
             return Err(NoFile::Protected(Protection::Stream(stream)));
         }
@@ -47,17 +43,13 @@ impl<'a> GrowingFile<'a> {
         self.is_regular
     }
 
-    /// Its path.
-    pub fn path(&self) -> &'a str {
-        self.path
-    }
-
-    /// Removes its content, and returns the file.
-    pub fn begin(self) -> io::Result<File> {
+    /// Removes its content, and returns the file and its path.
+    pub fn begin(self) -> io::Result<(File, String)> {
         if self.is_regular {
             self.file.set_len(0)?;
         }
-        Ok(self.file)
+        let GrowingFile { path, file, .. } = self;
+        Ok((file, path))
     }
 
     /// Removes the file if opening it has made it. Otherwise it stays as it was.
@@ -66,20 +58,21 @@ impl<'a> GrowingFile<'a> {
             return;
         }
         // The path may be a link, which stays.
-        if let Ok(path) = fs::canonicalize(rt, self.path) {
+        if let Ok(path) = fs::canonicalize(rt, self.path.as_str()) {
             let _ = fs::remove_file(rt, path.as_path());
         }
     }
 }
 
 /// Opens a file for writing, and makes it if it does not exist.
-fn opened<'a>(rt: &HostRuntime, path: &'a str) -> io::Result<GrowingFile<'a>> {
+fn opened(rt: &HostRuntime, path: &str) -> io::Result<GrowingFile> {
     let (file, is_new) = match OpenOptions::new().write(true).open(rt, path) {
         Ok(file) => (file, false),
         Err(error) if error.kind() == ErrorKind::NotFound => (fs::create(rt, path)?, true),
         Err(error) => return Err(error),
     };
     let is_regular = file.metadata()?.is_file();
+    let path = String::from_str(rt.alloc(), path)?;
     Ok(GrowingFile {
         path,
         file,

@@ -25,7 +25,7 @@ impl<'rt> LadderFile<'rt> {
     pub(crate) fn begin(
         rt: &'rt HostRuntime,
         notes: &'rt Notes<'rt>,
-        path: &'rt str,
+        path: String,
         file: File,
     ) -> Result<LadderFile<'rt>, AllocError> {
         let file = RecordFile::new(rt, notes, "ladder", path, file);

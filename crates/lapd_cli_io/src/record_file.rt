@@ -21,7 +21,7 @@ pub struct RecordFile<'rt> {
     rt: &'rt HostRuntime,
     losses: Losses<'rt>,
     /// The path of a named pipe.
-    pipe: Option<&'rt str>,
+    pipe: Option<String>,
     file: Option<File>,
     /// `None` for a regular file, which is always ready, and if the watch can't be created.
     watch: Option<Watch>,
@@ -49,7 +49,7 @@ impl<'rt> RecordFile<'rt> {
         rt: &'rt HostRuntime,
         notes: &'rt Notes<'rt>,
         name: &'static str,
-        path: &'rt str,
+        path: String,
         file: File,
     ) -> RecordFile<'rt> {
         let watch = Watch::new(rt, file.as_raw_fd()).ok();
@@ -143,10 +143,7 @@ impl<'rt> RecordFile<'rt> {
     ///
     /// This error of a write, if it is another one, or the system's.
     fn lose_reader(&mut self, error: io::Error) -> io::Result<()> {
-        let Some(path) = self.pipe else {
-            return Err(error);
-        };
-        if error.kind() != ErrorKind::BrokenPipe {
+        if self.pipe.is_none() || error.kind() != ErrorKind::BrokenPipe {
             return Err(error);
         }
         if self.is_new {
@@ -155,7 +152,10 @@ impl<'rt> RecordFile<'rt> {
         // While one end is open, the pipe keeps what the reader has left unread.
         self.watch = None;
         self.file = None;
-        let file = opened_pipe(self.rt, path)?;
+        let file = match &self.pipe {
+            Some(path) => opened_pipe(self.rt, path.as_str())?,
+            None => return Err(error),
+        };
         self.watch = Some(Watch::new(self.rt, file.as_raw_fd())?);
         self.file = Some(file);
         self.is_new = true;

@@ -50,8 +50,8 @@ pub struct Taps<'rt> {
     notes: &'rt Notes<'rt>,
     own: Side,
     /// The regular files of the capture and the ladder until they are begun.
-    kept_capture: Option<GrowingFile<'rt>>,
-    kept_ladder: Option<GrowingFile<'rt>>,
+    kept_capture: Option<GrowingFile>,
+    kept_ladder: Option<GrowingFile>,
     /// The time of the start, in milliseconds since 1970, known from the first frame on.
     begun: Option<u64>,
     capture: Option<CaptureFile<'rt>>,
@@ -79,7 +79,7 @@ impl<'rt> Taps<'rt> {
         rt: &'rt HostRuntime,
         notes: &'rt Notes<'rt>,
         own: Side,
-        setup: &TapSetup<'rt>,
+        setup: &TapSetup<'_>,
     ) -> Result<Taps<'rt>, NoTaps> {
         let mut taps = Taps {
             rt,
@@ -133,7 +133,7 @@ impl<'rt> Taps<'rt> {
     }
 
     // Opens what is requested.
-    fn open_all(&mut self, setup: &TapSetup<'rt>) -> Result<(), NoTaps> {
+    fn open_all(&mut self, setup: &TapSetup<'_>) -> Result<(), NoTaps> {
         if self.is_same_file(setup) {
             return Err(NoTaps::SameFile);
         }
@@ -162,7 +162,7 @@ impl<'rt> Taps<'rt> {
         }
     }
 
-    fn open_capture(&mut self, path: &'rt str) -> Result<(), NoTaps> {
+    fn open_capture(&mut self, path: &str) -> Result<(), NoTaps> {
         let opened = GrowingFile::open(self.rt, path, Content::Capture);
         let file = opened.map_err(NoTaps::Capture)?;
         if file.is_regular() {
@@ -172,7 +172,7 @@ impl<'rt> Taps<'rt> {
         self.begin_capture(file)
     }
 
-    fn open_ladder(&mut self, path: &'rt str) -> Result<(), NoTaps> {
+    fn open_ladder(&mut self, path: &str) -> Result<(), NoTaps> {
         let opened = GrowingFile::open(self.rt, path, Content::Drawing);
         let file = opened.map_err(NoTaps::Ladder)?;
         if file.is_regular() {
@@ -183,7 +183,7 @@ impl<'rt> Taps<'rt> {
     }
 
     // Begins this side's capture in a file.
-    fn begin_capture(&mut self, file: GrowingFile<'rt>) -> Result<(), NoTaps> {
+    fn begin_capture(&mut self, file: GrowingFile) -> Result<(), NoTaps> {
         let begun = capture_into(self.rt, self.notes, self.own, file);
         let capture = begun.map_err(|error| NoTaps::Capture(NoFile::Device(error)))?;
         self.capture = Some(capture);
@@ -191,10 +191,9 @@ impl<'rt> Taps<'rt> {
     }
 
     // Begins a ladder in a file.
-    fn begin_ladder(&mut self, file: GrowingFile<'rt>) -> Result<(), NoTaps> {
-        let path = file.path();
+    fn begin_ladder(&mut self, file: GrowingFile) -> Result<(), NoTaps> {
         let begun = file.begin();
-        let file = begun.map_err(|error| NoTaps::Ladder(NoFile::Device(error)))?;
+        let (file, path) = begun.map_err(|error| NoTaps::Ladder(NoFile::Device(error)))?;
         match LadderFile::begin(self.rt, self.notes, path, file) {
             Ok(ladder) => {
                 self.ladder = Some(ladder);
@@ -307,10 +306,10 @@ fn capture_into<'rt>(
     rt: &'rt HostRuntime,
     notes: &'rt Notes<'rt>,
     own: Side,
-    file: GrowingFile<'rt>,
+    file: GrowingFile,
 ) -> io::Result<CaptureFile<'rt>> {
-    let path = file.path();
-    CaptureFile::begin(rt, notes, own, path, file.begin()?)
+    let (file, path) = file.begin()?;
+    CaptureFile::begin(rt, notes, own, path, file)
 }
 
 // The time of the start: the known one, or `moment` milliseconds ago.
