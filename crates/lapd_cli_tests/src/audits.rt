@@ -2,7 +2,7 @@
 
 use crate::wants::all_hold;
 use lapd_sides::Tei;
-use lapd_tei::{Assigner, AssignerEvent};
+use lapd_tei::{Assigner, AssignerEvent, TeiKind, TeiMessage};
 use lapd_tei_audit::{AuditStep, TeiAudit, UsedTei, used_tei};
 use std::test::Fail;
 
@@ -16,6 +16,16 @@ const NONE_UP: [bool; 127] = [false; 127];
 
 fn tei(value: u8) -> Tei {
     Tei::new(value).unwrap_or(Tei::group())
+}
+
+/// An assigner that has assigned this many TEIs, from 64 on.
+fn assigned(count: u16) -> Assigner {
+    let mut assigner = Assigner::new(&[]);
+    for ri in 0..count {
+        let (kind, ai) = (TeiKind::Request, 127);
+        let _ = assigner.handle(AssignerEvent::Heard(TeiMessage { ri, kind, ai }));
+    }
+    assigner
 }
 
 /// An audit whose terminals were asked at 0, when one joined.
@@ -41,7 +51,7 @@ fn asks() -> bool {
 
 /// A TEI that the side does not hold is removed at once, by an answer or by a discarded frame.
 fn removes() -> bool {
-    let assigner = Assigner::new(&[tei(64)]);
+    let assigner = assigned(1);
     let mut audit = asked(&assigner);
     audit.count_answer(tei(64));
     let held = audit.next(&assigner, &NONE_UP, 1);
@@ -59,7 +69,7 @@ fn removes() -> bool {
 
 /// A TEI that two terminals answer for is checked after T201, and not during another check.
 fn checks_doubled() -> bool {
-    let mut assigner = Assigner::new(&[tei(64), tei(65)]);
+    let mut assigner = assigned(2);
     let mut audit = asked(&assigner);
     for value in [64, 64, 65, 65] {
         audit.count_answer(tei(value));
@@ -78,7 +88,7 @@ fn checks_doubled() -> bool {
 
 /// A held TEI that nobody answers for is checked, unless a link of it is established.
 fn checks_silent() -> bool {
-    let assigner = Assigner::new(&[tei(64), tei(65)]);
+    let assigner = assigned(2);
     let mut up = NONE_UP;
     up[64] = true;
     let mut audit = asked(&assigner);
