@@ -7,12 +7,12 @@ use Rattle.lapd_tei.specs.declared.phase.Phase.{Phase}
 use Rattle.lapd_tei.specs.declared.phase.Phase.TheVariants.{Unassigned, Awaiting, Assigned}
 use Rattle.lapd_tei.specs.Terminal.{reference_of}
 use Rattle.lapd_sides.specs.User.{User, has_tei}
-use Rattle.lapd_interface.specs.Interface.{Configs, user_behaviour, network_behaviour}
-use Rattle.lapd_interface.specs.SideView.{SideView, reaction, does}
-use Rattle.lapd_interface_laws.proofs.AsMade.{new_are_own, new_are_held}
-use Rattle.lapd_interface_laws.proofs.OwnSides.{AreHeld, network_preserves, AreOwn, user_preserves}
+use Rattle.lapd_side_events.specs.Interface.{Configs, user_behaviour, network_behaviour}
+use Rattle.lapd_side_events.specs.SideView.{SideView, reaction, does}
+use Rattle.lapd_two_side_laws.proofs.AsMade.{new_are_own, new_are_held}
+use Rattle.lapd_two_side_laws.proofs.OwnSides.{AreHeld, network_preserves, AreOwn, user_preserves}
 use Rattle.lapd_bus_laws.specs.Assignments.{holds, is_of_tei, is_sent, awaited, is_offer, assignments, claims, IsSingle}
-use Rattle.lapd_interface.specs.Bus.{Bus, BusEvent, OfTerminal, OfNetwork, Join, Restart, NewTerminal, connected, new_bus, reached_by, left_of, on_line_of, terminal_does, network_does, terminal_joins, bus_step, after_events}
+use Rattle.lapd_side_events.specs.Bus.{Bus, BusEvent, OfTerminal, OfNetwork, Join, Restart, NewTerminal, connected, new_bus, reached_by, left_of, on_line_of, terminal_does, network_does, terminal_joins, bus_step, after_events}
 use Rattle.lapd_bus_laws.specs.Healing.{Heals, HasNoManagementLink, IsChecked, IsAtRest, ReferencesDiffer, HoldTeis}
 use Rattle.lapd_bus_laws.specs.Holdings.{IsOfBus, AreApart, IsReached}
 use Rattle.lapd_bus_laws.specs.Links.{Throughout}

@@ -30,13 +30,13 @@ use Rattle.lapd_sides.specs.Management.{carries_message, manages}
 use Rattle.lapd_sides.specs.SideState as sides
 use Rattle.lapd_sides.specs.SideState.{among_links, data_received, expires, message_received, received, takes, with_links, with_stopped}
 use Rattle.lapd_sides.specs.Network.{Network, network_rules, assigner_acts, group_frame, network_requested}
-use Rattle.lapd_interface.specs.Interface.{network_behaviour}
-use Rattle.lapd_interface_laws.specs.Owed.{PassesBy}
-use Rattle.lapd_interface.specs.SideView.{SideView, SideEvent, Take, Lose, Expire, Ask, Overhear, unmoved, takes_first, may_expire, or_unmoved, reaction}
-use Rattle.lapd_interface_laws.proofs.LinkParts.{absent_acts, expiry_passes}
-use Rattle.lapd_interface_laws.proofs.Reactions.{AnyInput, HoldsOfLinks, Law, any_frame, each_request, faulty, frame_data}
-use Rattle.lapd_interface_laws.proofs.Requests.{network_asked}
-use Rattle.lapd_interface.specs.Bus.{OverhearsNothing}
+use Rattle.lapd_side_events.specs.Interface.{network_behaviour}
+use Rattle.lapd_two_side_laws.specs.Owed.{PassesBy}
+use Rattle.lapd_side_events.specs.SideView.{SideView, SideEvent, Take, Lose, Expire, Ask, Overhear, unmoved, takes_first, may_expire, or_unmoved, reaction}
+use Rattle.lapd_two_side_laws.proofs.LinkParts.{absent_acts, expiry_passes}
+use Rattle.lapd_two_side_laws.proofs.Reactions.{AnyInput, HoldsOfLinks, Law, any_frame, each_request, faulty, frame_data}
+use Rattle.lapd_two_side_laws.proofs.Requests.{network_asked}
+use Rattle.lapd_side_events.specs.Bus.{OverhearsNothing}
 use Rattle.lapd_bus_laws.specs.Healing.{message_if_any, message_in_frame, message_in, is_about, HasNoManagementLink, management_id}
 use Rattle.lapd_bus_laws.proofs.Assigns.{group_is_other}
 use Rattle.lapd_bus_laws.proofs.Carried.{permitted, sent_messages, links_carry_none, receives_message}

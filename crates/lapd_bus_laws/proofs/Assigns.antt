@@ -37,18 +37,18 @@ use Rattle.lapd_sides.specs.Management.{links_with, links_without, removal_primi
 use Rattle.lapd_sides.specs.SideState.{with_links, with_stopped}
 use Rattle.lapd_sides.specs.Network as network
 use Rattle.lapd_sides.specs.Network.{Network, assigner_acts, group_frame, network_rules, sends_to_all}
-use Rattle.lapd_interface_laws.specs.Addressed.{those_for}
-use Rattle.lapd_interface.specs.Interface.{network_behaviour}
-use Rattle.lapd_interface_laws.specs.Owed.{PassesBy}
-use Rattle.lapd_interface_laws.specs.Premises.{is_assignment, is_removal}
-use Rattle.lapd_interface.specs.SideView.{SideView, SideEvent, reaction}
-use Rattle.lapd_interface_laws.proofs.LinkOps.{ArePlain, IsLinkOp, none_of_both, op_acts, op_expires}
-use Rattle.lapd_interface_laws.proofs.Plain.{plain_no_assignment, plain_removals}
-use Rattle.lapd_interface_laws.proofs.Reactions.{AnyInput, AnyRequest, HoldsOfEvents, HoldsOfLinks, Law, each_event, each_request, reacts}
-use Rattle.lapd_interface_laws.proofs.Requests.{network_asked, sent_to_group}
-use Rattle.lapd_interface_laws.proofs.HeldTeis.{GivesFree, gives_free}
-use Rattle.lapd_interface_laws.proofs.LinkParts.{expiry_passes, any_more, absent_acts, spelled_is_for}
-use Rattle.lapd_interface_laws.proofs.Managed.{freed_is_reported}
+use Rattle.lapd_two_side_laws.specs.Addressed.{those_for}
+use Rattle.lapd_side_events.specs.Interface.{network_behaviour}
+use Rattle.lapd_two_side_laws.specs.Owed.{PassesBy}
+use Rattle.lapd_two_side_laws.specs.Premises.{is_assignment, is_removal}
+use Rattle.lapd_side_events.specs.SideView.{SideView, SideEvent, reaction}
+use Rattle.lapd_two_side_laws.proofs.LinkOps.{ArePlain, IsLinkOp, none_of_both, op_acts, op_expires}
+use Rattle.lapd_two_side_laws.proofs.Plain.{plain_no_assignment, plain_removals}
+use Rattle.lapd_two_side_laws.proofs.Reactions.{AnyInput, AnyRequest, HoldsOfEvents, HoldsOfLinks, Law, each_event, each_request, reacts}
+use Rattle.lapd_two_side_laws.proofs.Requests.{network_asked, sent_to_group}
+use Rattle.lapd_two_side_laws.proofs.HeldTeis.{GivesFree, gives_free}
+use Rattle.lapd_two_side_laws.proofs.LinkParts.{expiry_passes, any_more, absent_acts, spelled_is_for}
+use Rattle.lapd_two_side_laws.proofs.Managed.{freed_is_reported}
 use Rattle.lapd_bus_laws.specs.Assignments.{Assignment, assignment_in}
 pub use Rattle.lapd_bus_laws.specs.Healing.{HasNoManagementLink}
 use Rattle.lapd_bus_laws.proofs.Messages.{management_id, others_assign_nothing, assignment_again, links_assign_nothing}

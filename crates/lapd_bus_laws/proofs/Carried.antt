@@ -30,11 +30,11 @@ use Rattle.lapd_sides.specs.Management.{carries_message, is_management, is_ui}
 use Rattle.lapd_sides.specs.SideState as sides
 use Rattle.lapd_sides.specs.SideState.{SideState, Rules}
 use Rattle.lapd_sides.specs.User.{User}
-use Rattle.lapd_interface_laws.specs.Addressed.{is_named, is_for, those_for}
-use Rattle.lapd_interface.specs.SideView.{SideView, SideEvent, Take, Lose, Expire, Ask, Overhear, left}
-use Rattle.lapd_interface_laws.proofs.Managed.{and_not}
+use Rattle.lapd_two_side_laws.specs.Addressed.{is_named, is_for, those_for}
+use Rattle.lapd_side_events.specs.SideView.{SideView, SideEvent, Take, Lose, Expire, Ask, Overhear, left}
+use Rattle.lapd_two_side_laws.proofs.Managed.{and_not}
 use Rattle.lapd_bus_laws.specs.Assignments.{Assignment, assignment_by, assignment_of, assignment_in_frame, assignment_in, is_of_tei, is_sent, holds, is_taken}
-use Rattle.lapd_interface.specs.Bus.{reached_by}
+use Rattle.lapd_side_events.specs.Bus.{reached_by}
 use Rattle.lapd_bus_laws.specs.Healing.{message_if_any, message_in_frame, message_in, messages_to, is_about, LosesNoMessage, management_id}
 use Rattle.lapd_bus_laws.proofs.Lists.{none_first, some_second, not_both, false_by, any_removed}
 use Rattle.lapd_bus_laws.proofs.Messages.{message_again, not_for_group}

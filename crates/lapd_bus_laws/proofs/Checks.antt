@@ -12,17 +12,17 @@ use Rattle.lapd_table.specs.declared.link_id.LinkId.{LinkId}
 use Rattle.lapd_sides_links.specs.declared.primitive.Primitive.{Primitive}
 use Rattle.lapd_sides_links.specs.declared.primitive.Primitive.TheVariants.{Of, Management}
 use Rattle.lapd_sides.specs.User.{User, has_tei}
-use Rattle.lapd_interface_laws.specs.Addressed.{is_for, is_poll_for, is_final_for}
-use Rattle.lapd_interface.specs.Interface.{Configs, user_behaviour, network_behaviour}
-use Rattle.lapd_interface_laws.specs.Premises.{is_assignment, IsTimely}
-use Rattle.lapd_interface.specs.SideView.{SideView, SideEvent, Take, Lose, Expire, Ask, Overhear, reaction, does}
-use Rattle.lapd_interface_laws.proofs.Managed.{neither}
+use Rattle.lapd_two_side_laws.specs.Addressed.{is_for, is_poll_for, is_final_for}
+use Rattle.lapd_side_events.specs.Interface.{Configs, user_behaviour, network_behaviour}
+use Rattle.lapd_two_side_laws.specs.Premises.{is_assignment, IsTimely}
+use Rattle.lapd_side_events.specs.SideView.{SideView, SideEvent, Take, Lose, Expire, Ask, Overhear, reaction, does}
+use Rattle.lapd_two_side_laws.proofs.Managed.{neither}
 use Rattle.lapd_bus_laws.specs.Assignments.{holds, awaited, awaits, is_answered, claims, is_taken, IsSingle, IsHeldOnce}
-use Rattle.lapd_interface.specs.Bus.{Bus, BusEvent, OfTerminal, OfNetwork, Join, Restart, NewTerminal, connected, new_bus, OverhearsNothing, on_line_of, bus_step}
+use Rattle.lapd_side_events.specs.Bus.{Bus, BusEvent, OfTerminal, OfNetwork, Join, Restart, NewTerminal, connected, new_bus, OverhearsNothing, on_line_of, bus_step}
 use Rattle.lapd_bus_laws.specs.Holdings.{AssignsFree, IsOwnReference, RequestsByItsOwn, RequestsUnanswered, JoinsWithFree, IsOfBus, KeepsTeisApart, Assigns, IsOnlyClaimant, IsClear, LeavesAlone, KeepsHolding}
 use Rattle.lapd_bus_laws.specs.Links.{Throughout, IsTimelyFor, AssignsOthers}
 use Rattle.lapd_bus_laws.proofs.Lists.{both_so, map_back, any_at, any_other, either_some}
-use Rattle.lapd_interface.proofs.Indices.{apart_index}
+use Rattle.lapd_side_events.proofs.Indices.{apart_index}
 use Rattle.lapd_bus_laws.proofs.Sole.{has_not, has_so}
 
 not_so : (a : Bool) → not a ≡ true → a ≡ false

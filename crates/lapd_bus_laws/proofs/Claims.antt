@@ -12,11 +12,11 @@ use Rattle.lapd_tei.specs.Terminal.{tei_of}
 use Rattle.lapd_sides_links.specs.Links.{Reaction}
 use Rattle.lapd_sides.specs.Network.{Network}
 use Rattle.lapd_sides.specs.User.{User, has_tei}
-use Rattle.lapd_interface.specs.Interface.{Configs, user_behaviour}
-use Rattle.lapd_interface_laws.specs.Premises.{is_assignment}
-use Rattle.lapd_interface.specs.SideView.{SideView, SideEvent, Take, Lose, Expire, Ask, Overhear, reaction, left, does}
+use Rattle.lapd_side_events.specs.Interface.{Configs, user_behaviour}
+use Rattle.lapd_two_side_laws.specs.Premises.{is_assignment}
+use Rattle.lapd_side_events.specs.SideView.{SideView, SideEvent, Take, Lose, Expire, Ask, Overhear, reaction, left, does}
 use Rattle.lapd_bus_laws.specs.Assignments.{Assignment, assignment_in, assignments, holds, is_of_tei, is_sent, awaited, awaits, has_reference, is_answered, is_offer, claims, is_taken}
-use Rattle.lapd_interface.specs.Bus.{OverhearsNothing, reached_by}
+use Rattle.lapd_side_events.specs.Bus.{OverhearsNothing, reached_by}
 use Rattle.lapd_bus_laws.proofs.Assigns.{AssignsOne}
 use Rattle.lapd_bus_laws.proofs.Lists.{both_so, either_some, some_first, some_second, not_both, any_weaker, any_dropped, any_removed}
 use Rattle.lapd_bus_laws.proofs.Obtains.{FirstAnswers, TakesAnswer, event_obtains}

@@ -4,10 +4,10 @@ use Rattle.std.specs.Prelude.{slice_get}
 use Rattle.std.specs.List.{AllByRecursion}
 use Rattle.std.proofs.lemmas.Option.{slice_get-map}
 use Rattle.lapd_sides.specs.User.{User, new_user}
-use Rattle.lapd_interface.specs.SideView.{SideView, SideEvent, reaction, does}
-use Rattle.lapd_interface.specs.Interface.{Configs, Interface, Move, happens, run, user_behaviour, network_behaviour}
-use Rattle.lapd_interface.specs.Bus.{Bus, BusEvent, OfTerminal, OfNetwork, Join, Restart, NewTerminal, KeepsTerminal, Follows, reached_by, left_of, on_line_of, bus_step, interface_of, moves_of, moves_along}
-use Rattle.lapd_interface.proofs.Indices.{set_here, set_there, same_index, equal_index, apart_index}
+use Rattle.lapd_side_events.specs.SideView.{SideView, SideEvent, reaction, does}
+use Rattle.lapd_side_events.specs.Interface.{Configs, Interface, Move, happens, run, user_behaviour, network_behaviour}
+use Rattle.lapd_side_events.specs.Bus.{Bus, BusEvent, OfTerminal, OfNetwork, Join, Restart, NewTerminal, KeepsTerminal, Follows, reached_by, left_of, on_line_of, bus_step, interface_of, moves_of, moves_along}
+use Rattle.lapd_side_events.proofs.Indices.{set_here, set_there, same_index, equal_index, apart_index}
 use Rattle.lapd_bus_laws.proofs.Overheard.{overhears}
 
 run_append : (c : Configs) (ms ns : List Move) (k : Interface) → run c (ms ++ ns) k

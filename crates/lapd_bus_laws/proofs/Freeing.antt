@@ -8,17 +8,17 @@ use Rattle.lapd_tei.specs.Terminal.{tei_of, new_terminal}
 use Rattle.lapd_sides_links.specs.Links.{Reaction}
 use Rattle.lapd_sides.specs.Network.{Network}
 use Rattle.lapd_sides.specs.User.{User, new_user, has_tei}
-use Rattle.lapd_interface.specs.Interface.{Configs, user_behaviour, network_behaviour}
-use Rattle.lapd_interface.specs.SideView.{SideView, SideEvent, reaction, left, does}
+use Rattle.lapd_side_events.specs.Interface.{Configs, user_behaviour, network_behaviour}
+use Rattle.lapd_side_events.specs.SideView.{SideView, SideEvent, reaction, left, does}
 use Rattle.lapd_bus_laws.specs.Assignments.{Assignment, assignment_in, assignments, holds, is_of_tei, is_sent, is_taken}
-use Rattle.lapd_interface.specs.Bus.{Bus, BusEvent, OfTerminal, OfNetwork, Join, Restart, NewTerminal, new_bus, OverhearsNothing, reached_by, left_of, on_line_of, terminal_does, network_does, terminal_joins, bus_step}
+use Rattle.lapd_side_events.specs.Bus.{Bus, BusEvent, OfTerminal, OfNetwork, Join, Restart, NewTerminal, new_bus, OverhearsNothing, reached_by, left_of, on_line_of, terminal_does, network_does, terminal_joins, bus_step}
 use Rattle.lapd_bus_laws.specs.Freeing.{IsInUse, KnowsTeisInUse, FreesUnused, JoinsKnown, LosesNone}
 use Rattle.lapd_bus_laws.specs.Holdings.{AssignsFree, AssignsTei}
 use Rattle.lapd_bus_laws.specs.Links.{Throughout}
 use Rattle.lapd_bus_laws.proofs.Assigns.{HasNoManagementLink, AssignsAtMostOne, event_assigns}
 use Rattle.lapd_bus_laws.proofs.Claims.{any_left, same_tei, claim_is_taken, obtains_claimed, reached_by_none, reached_by_one}
 use Rattle.lapd_bus_laws.proofs.Lists.{either_some, some_first, some_second, not_both, false_by}
-use Rattle.lapd_interface.proofs.Indices.{equal_index}
+use Rattle.lapd_side_events.proofs.Indices.{equal_index}
 use Rattle.lapd_bus_laws.proofs.Obtains.{event_obtains}
 use Rattle.lapd_bus_laws.proofs.Single.{no_management}
 use Rattle.lapd_bus_laws.proofs.Sole.{has_so}

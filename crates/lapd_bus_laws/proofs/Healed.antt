@@ -20,10 +20,10 @@ use Rattle.lapd_tei.specs.Terminal.{reference_of}
 use Rattle.lapd_sides_links.specs.Links.{Reaction}
 use Rattle.lapd_sides.specs.Network.{Network}
 use Rattle.lapd_sides.specs.User.{User, new_user, has_tei}
-use Rattle.lapd_interface.specs.Interface.{Configs, user_behaviour, network_behaviour}
-use Rattle.lapd_interface.specs.SideView.{SideView, SideEvent, Take, Lose, Expire, Ask, Overhear, reaction, left, does}
+use Rattle.lapd_side_events.specs.Interface.{Configs, user_behaviour, network_behaviour}
+use Rattle.lapd_side_events.specs.SideView.{SideView, SideEvent, Take, Lose, Expire, Ask, Overhear, reaction, left, does}
 use Rattle.lapd_bus_laws.specs.Assignments.{holds, is_sent, is_taken, IsSingle, IsHeldOnce}
-use Rattle.lapd_interface.specs.Bus.{Bus, BusEvent, OfTerminal, OfNetwork, Join, Restart, NewTerminal, new_bus, OverhearsNothing, on_line_of, reached_by, left_of, terminal_does, network_does, terminal_joins, bus_step, after_events}
+use Rattle.lapd_side_events.specs.Bus.{Bus, BusEvent, OfTerminal, OfNetwork, Join, Restart, NewTerminal, new_bus, OverhearsNothing, on_line_of, reached_by, left_of, terminal_does, network_does, terminal_joins, bus_step, after_events}
 use Rattle.lapd_bus_laws.specs.Healing.{message_in, messages_to, messages_from, has_incoming, has_outgoing, LosesNoMessage, IsAnswered, WaitsForResponses, Heals, HasNoManagementLink, BeginsCheck, IsCheckOver, IsChecked, IsAtRest, ReferencesDiffer, HoldTeis}
 use Rattle.lapd_bus_laws.specs.Holdings.{IsOfBus, JoinsWithFree}
 use Rattle.lapd_bus_laws.specs.Links.{Throughout}
@@ -32,7 +32,7 @@ use Rattle.lapd_bus_laws.proofs.Assigns.{AssignsAtMostOne, event_assigns}
 use Rattle.lapd_bus_laws.proofs.Carried.{HasLast, never, none_never, last_any, last_left, about_names, assigned_on}
 use Rattle.lapd_bus_laws.proofs.CheckRows.{AssignsNone, step_assigns_once, heard_row, RequestedRow, requested_check_row, requested_removal_row, ExpiredRow, expired_row, begins_row}
 use Rattle.lapd_bus_laws.proofs.Lists.{both_so, Each, Others, each_set, each_map, others_set, others_map, any_at, any_other, any_weaker, either_some, some_first, not_both}
-use Rattle.lapd_interface.proofs.Indices.{equal_index, apart_index}
+use Rattle.lapd_side_events.proofs.Indices.{equal_index, apart_index}
 use Rattle.lapd_bus_laws.proofs.Single.{no_management}
 use Rattle.lapd_bus_laws.proofs.Sole.{has_so}
 use Rattle.lapd_bus_laws.proofs.Settled.{Carries, IsRequest, IsResponse, IsRemoval, IsAssigned, IsAnswer, IsNotTaken, Settles, Leaves, Obeys, settles_after, not_taken_after, leaves_after, obeys_after, settles_joined, not_taken_joined, leaves_joined, obeys_joined, not_taken_reached, settles_reached, leaves_reached, obeys_reached, settles_by_request, leaves_by_removals, obeys_by_assignment}

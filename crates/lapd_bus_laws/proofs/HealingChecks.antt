@@ -9,15 +9,15 @@ use Rattle.lapd_tei.specs.declared.message.TeiMessage.{TeiMessage}
 use Rattle.lapd_tei.specs.Assigner.{checked}
 use Rattle.lapd_tei.specs.Terminal.{reference_of}
 use Rattle.lapd_sides.specs.User.{User, has_tei}
-use Rattle.lapd_interface.specs.Interface.{Configs}
-use Rattle.lapd_interface.specs.SideView.{SideView, SideEvent, Take, Lose, Expire, Ask, Overhear}
+use Rattle.lapd_side_events.specs.Interface.{Configs}
+use Rattle.lapd_side_events.specs.SideView.{SideView, SideEvent, Take, Lose, Expire, Ask, Overhear}
 use Rattle.lapd_bus_laws.specs.Assignments.{claims, awaits}
-use Rattle.lapd_interface.specs.Bus.{Bus, BusEvent, OfTerminal, OfNetwork, Join, Restart}
+use Rattle.lapd_side_events.specs.Bus.{Bus, BusEvent, OfTerminal, OfNetwork, Join, Restart}
 use Rattle.lapd_bus_laws.specs.Healing.{message_in, has_incoming, has_outgoing, LosesNoMessage, DeliversMessages, WaitsForResponses, CarriesCheckOn, Heals, IsCheckOver, ReferencesDiffer}
 use Rattle.lapd_bus_laws.specs.Holdings.{AreApart}
 use Rattle.lapd_bus_laws.proofs.Checks.{where_there, there_so, of_bus, of_bus_so, joins_with_free, joins_with_free_so}
 use Rattle.lapd_bus_laws.proofs.Lists.{both_so, Unique, any_at, not_both, any_other}
-use Rattle.lapd_interface.proofs.Indices.{equal_index, apart_index}
+use Rattle.lapd_side_events.proofs.Indices.{equal_index, apart_index}
 use Rattle.lapd_bus_laws.proofs.Sole.{has_not}
 
 not_so : (a : Bool) → not a ≡ true → a ≡ false

@@ -6,10 +6,10 @@ use Rattle.lapd_sides.specs.SideState.{link_of, expires, takes}
 use Rattle.lapd_sides.specs.Network.{assigner_acts, network_requested}
 use Rattle.lapd_sides.specs.User.{terminal_acts, user_requested}
 use Rattle.lapd_sides.specs.Worked as sides
-use Rattle.lapd_interface_laws.specs.Schedule.{configs}
-use Rattle.lapd_interface.specs.SideView.{Take, Lose, does}
+use Rattle.lapd_two_side_laws.specs.Schedule.{configs}
+use Rattle.lapd_side_events.specs.SideView.{Take, Lose, does}
 use Rattle.lapd_bus_laws.specs.Assignments.{holds, IsHeldOnce}
-use Rattle.lapd_interface.specs.Bus.{OfTerminal, OfNetwork, Join, Restart, after_events}
+use Rattle.lapd_side_events.specs.Bus.{OfTerminal, OfNetwork, Join, Restart, after_events}
 use Rattle.lapd_bus_laws.specs.Healing.{DeliversMessages, CarriesCheckOn, Heals, IsChecked, IsAtRest, ReferencesDiffer}
 use Rattle.lapd_bus_laws.specs.HealingRuns.{doubled, unknown, begins, times_out, both_take, both_leave, one_obtains, healed, one_responds, other_obtains, assigned_anew, IsNotHealed, HealsButDelivery, HealsButCheck, HealsButJoining, request_lost, too_early, given_up, joins_during, same_then, begun, before_removals, before_rest}
 use Rattle.lapd_bus_laws.specs.Holdings.{JoinsWithFree, IsOfBus, IsReached}

@@ -15,17 +15,17 @@ use Rattle.lapd_table.specs.declared.link_id.LinkId.{LinkId}
 use Rattle.lapd_sides_links.specs.Links.{Links, Linked, Reaction, is_link_of, or_new, with_tei, parameters_for}
 use Rattle.lapd_sides.specs.Network.{Network}
 use Rattle.lapd_sides.specs.User.{User, new_user}
-use Rattle.lapd_interface_laws.specs.Addressed.{those_for}
-use Rattle.lapd_interface.specs.Interface.{Configs, fresh_link, from_here, user_behaviour, network_behaviour}
-use Rattle.lapd_interface_laws.specs.Premises.{is_removal, is_assignment, GivesTeiOnce}
-use Rattle.lapd_interface_laws.specs.Projects.{HasLink, AwaitsLink, IsSafeAt}
-use Rattle.lapd_interface.specs.SideView.{SideView, SideEvent, Take, Lose, Expire, Ask, Overhear, reaction, left, does}
-use Rattle.lapd_interface_laws.proofs.AsMade.{new_are_own, new_of_user, new_of_network}
-use Rattle.lapd_interface_laws.proofs.OwnSides.{network_preserves, AreOwn, user_preserves}
-use Rattle.lapd_interface_laws.proofs.TerminalOwn.{Owns}
-use Rattle.lapd_interface_laws.proofs.Timed.{new_is_timed}
+use Rattle.lapd_two_side_laws.specs.Addressed.{those_for}
+use Rattle.lapd_side_events.specs.Interface.{Configs, fresh_link, from_here, user_behaviour, network_behaviour}
+use Rattle.lapd_two_side_laws.specs.Premises.{is_removal, is_assignment, GivesTeiOnce}
+use Rattle.lapd_two_side_laws.specs.Projects.{HasLink, AwaitsLink, IsSafeAt}
+use Rattle.lapd_side_events.specs.SideView.{SideView, SideEvent, Take, Lose, Expire, Ask, Overhear, reaction, left, does}
+use Rattle.lapd_two_side_laws.proofs.AsMade.{new_are_own, new_of_user, new_of_network}
+use Rattle.lapd_two_side_laws.proofs.OwnSides.{network_preserves, AreOwn, user_preserves}
+use Rattle.lapd_two_side_laws.proofs.TerminalOwn.{Owns}
+use Rattle.lapd_two_side_laws.proofs.Timed.{new_is_timed}
 use Rattle.lapd_bus_laws.specs.Assignments.{Assignment, assignment_in, assignments, holds, is_of_tei, is_sent, awaited, claims, is_taken}
-use Rattle.lapd_interface.specs.Bus.{Bus, BusEvent, OfTerminal, OfNetwork, Join, Restart, NewTerminal, KeepsTerminal, connected, new_bus, OverhearsNothing, recorded_anew, from_now, reached_by, left_of, on_line_of, terminal_does, network_does, terminal_joins, bus_step, after_events, interface_of, moves_along}
+use Rattle.lapd_side_events.specs.Bus.{Bus, BusEvent, OfTerminal, OfNetwork, Join, Restart, NewTerminal, KeepsTerminal, connected, new_bus, OverhearsNothing, recorded_anew, from_now, reached_by, left_of, on_line_of, terminal_does, network_does, terminal_joins, bus_step, after_events, interface_of, moves_along}
 use Rattle.lapd_bus_laws.specs.Holdings.{RequestsUnanswered, KeepsTeisApart, IsReached, AssignsTei, Assigns, IsOnlyClaimant, IsClearToNetwork, LeavesAlone, KeepsHolding}
 use Rattle.lapd_bus_laws.specs.Links.{IsAside, IsNewHere, Throughout, IsTimelyFor, IsNotAssigned, AssignsOthers, ObtainsOnce, IsSole, IsNobodyElses}
 use Rattle.lapd_bus_laws.proofs.Apart.{kept_apart}
@@ -35,7 +35,7 @@ use Rattle.lapd_bus_laws.proofs.Lists.{Each, Others, AtMostOne, each_set, each_m
 use Rattle.lapd_bus_laws.proofs.Obtains.{TakesAnswer, event_obtains}
 use Rattle.lapd_bus_laws.proofs.Single.{fixed_of, no_management, KeepsApart, event_keeps}
 use Rattle.lapd_bus_laws.proofs.Sole.{has_so, has_not, safe_here, nobody_elses}
-use Rattle.lapd_interface_laws.proofs.Managed.{neither}
+use Rattle.lapd_two_side_laws.proofs.Managed.{neither}
 
 -- ---- A terminal takes the assignment once.
 

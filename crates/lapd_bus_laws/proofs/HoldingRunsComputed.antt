@@ -25,11 +25,11 @@ use Rattle.lapd_link_definition.specs.Reports.{IsExpected}
 use Rattle.lapd_pair_laws.specs.Schedule.{one_message, two_messages}
 use Rattle.lapd_sides_links.specs.declared.primitive.What.{What}
 use Rattle.lapd_sides_links.specs.declared.primitive.What.TheVariants as what
-use Rattle.lapd_interface_laws.specs.Primitives.{link_primitives, given_to, known_of, IsReceived, IsExpectedOfLink, AreExpectedOfLink}
-use Rattle.lapd_interface_laws.specs.Schedule.{configs, call, IsMessage}
-use Rattle.lapd_interface.specs.SideView.{SideView, does}
-use Rattle.lapd_interface_laws.proofs.Computed.{Fits, holding, with_both, one_of, differ, received_as}
-use Rattle.lapd_interface.specs.Bus.{Bus, from_now, bus_step, after_events}
+use Rattle.lapd_two_side_laws.specs.Primitives.{link_primitives, given_to, known_of, IsReceived, IsExpectedOfLink, AreExpectedOfLink}
+use Rattle.lapd_two_side_laws.specs.Schedule.{configs, call, IsMessage}
+use Rattle.lapd_side_events.specs.SideView.{SideView, does}
+use Rattle.lapd_two_side_laws.proofs.Computed.{Fits, holding, with_both, one_of, differ, received_as}
+use Rattle.lapd_side_events.specs.Bus.{Bus, from_now, bus_step, after_events}
 use Rattle.lapd_bus_laws.specs.HoldingRuns.{IsReceivedByTerminal, IsReceivedByNetwork, KeepsAllButT200, KeepsAllButAssigning, KeepsAllButRequesting, KeepsAllButLeaving, joined, replaced, restarted, from_first, hasty, regained, leaves_sabme, assigns_second, with_old_sabme, answers_old, from_twins, taken_twice}
 use Rattle.lapd_bus_laws.specs.Holdings.{RequestsByItsOwn, KeepsTeisApart, IsReached, Assigns, IsOnlyClaimant, LeavesAlone, KeepsHolding}
 use Rattle.lapd_bus_laws.specs.Links.{Throughout, IsTimelyFor, AssignsOthers, IsNobodyElses}

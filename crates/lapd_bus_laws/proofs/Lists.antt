@@ -5,8 +5,8 @@ use Rattle.std.specs.List.{remove, list_any, filter_map, cons_option}
 use Rattle.std.proofs.lemmas.List.Folds.{list_any-append}
 use Rattle.std.proofs.lemmas.Bool.Decides.{nat_tests}
 use Rattle.lapd_tei.proofs.PreservedByBus.{get_after_set}
-use Rattle.lapd_interface.proofs.Indices.{equal_index, apart_index}
-use Rattle.lapd_interface_laws.proofs.Managed.{neither}
+use Rattle.lapd_side_events.proofs.Indices.{equal_index, apart_index}
+use Rattle.lapd_two_side_laws.proofs.Managed.{neither}
 
 -- ---- Elements by index.
 

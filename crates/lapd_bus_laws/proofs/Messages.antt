@@ -18,8 +18,8 @@ use Rattle.lapd_tei.specs.Message.{frame_of_message, message_at, message_octets,
 use Rattle.lapd_table.specs.LinkId.{id_eq, id_of_address}
 use Rattle.lapd_table.specs.Octets.{event_by}
 use Rattle.lapd_sides.specs.Management.{is_management, is_ui}
-use Rattle.lapd_interface_laws.specs.Addressed.{is_named, is_for, those_for}
-use Rattle.lapd_interface_laws.proofs.Managed.{and_not}
+use Rattle.lapd_two_side_laws.specs.Addressed.{is_named, is_for, those_for}
+use Rattle.lapd_two_side_laws.proofs.Managed.{and_not}
 pub use Rattle.lapd_bus_laws.specs.Healing.{management_id}
 use Rattle.lapd_bus_laws.specs.Assignments.{Assignment, assignment_by, assignment_of, assignment_in_frame, assignment_in}
 use Rattle.lapd_bus_laws.proofs.Lists.{none_first}

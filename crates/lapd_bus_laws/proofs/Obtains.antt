@@ -37,16 +37,16 @@ use Rattle.lapd_sides.specs.Management.{carries_message, manages, links_with, re
 use Rattle.lapd_sides.specs.SideState as sides
 use Rattle.lapd_sides.specs.SideState.{among_links, data_received, expires, message_received, received, takes, with_stopped}
 use Rattle.lapd_sides.specs.User.{User, TerminalState, next_reference, pending_after, terminal_acts, user_requested, user_rules}
-use Rattle.lapd_interface.specs.Interface.{user_behaviour}
-use Rattle.lapd_interface_laws.specs.Premises.{is_removal, is_assignment}
-use Rattle.lapd_interface.specs.SideView.{SideView, SideEvent, Take, Lose, Expire, Ask, Overhear, unmoved, takes_first, may_expire, or_unmoved, reaction}
-use Rattle.lapd_interface_laws.proofs.LinkParts.{any_more}
-use Rattle.lapd_interface.specs.Bus.{OverhearsNothing}
+use Rattle.lapd_side_events.specs.Interface.{user_behaviour}
+use Rattle.lapd_two_side_laws.specs.Premises.{is_removal, is_assignment}
+use Rattle.lapd_side_events.specs.SideView.{SideView, SideEvent, Take, Lose, Expire, Ask, Overhear, unmoved, takes_first, may_expire, or_unmoved, reaction}
+use Rattle.lapd_two_side_laws.proofs.LinkParts.{any_more}
+use Rattle.lapd_side_events.specs.Bus.{OverhearsNothing}
 use Rattle.lapd_bus_laws.specs.Assignments.{assignment_by, assignment_of, assignment_in_frame, assignment_in, awaited}
-use Rattle.lapd_interface_laws.proofs.LinkOps.{ArePlain, IsLinkOp, op_expires}
-use Rattle.lapd_interface_laws.proofs.Plain.{IsAside, aside_links, aside_op, pending_aside, plain_no_assignment, plain_no_removal, plain_removals}
-use Rattle.lapd_interface_laws.proofs.Reactions.{AnyInput, AnyRequest, HoldsOfLinks, Law, any_frame, each_request, faulty, frame_data}
-use Rattle.lapd_interface_laws.proofs.Requests.{by_events, stepped_by, user_asked}
+use Rattle.lapd_two_side_laws.proofs.LinkOps.{ArePlain, IsLinkOp, op_expires}
+use Rattle.lapd_two_side_laws.proofs.Plain.{IsAside, aside_links, aside_op, pending_aside, plain_no_assignment, plain_no_removal, plain_removals}
+use Rattle.lapd_two_side_laws.proofs.Reactions.{AnyInput, AnyRequest, HoldsOfLinks, Law, any_frame, each_request, faulty, frame_data}
+use Rattle.lapd_two_side_laws.proofs.Requests.{by_events, stepped_by, user_asked}
 
 -- ---- A step of the terminal.
 

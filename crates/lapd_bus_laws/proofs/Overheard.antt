@@ -2,9 +2,9 @@
 use Rattle.std.proofs.Common.{ℕ, List, [], ◌∷◌, refl}
 use Rattle.std.proofs.lemmas.List.{append-nil}
 use Rattle.lapd_sides.specs.User.{User}
-use Rattle.lapd_interface.specs.SideView.{SideView, SideEvent, Take, Lose, Expire, Ask, Overhear, does}
-use Rattle.lapd_interface.specs.Interface.{Configs}
-use Rattle.lapd_interface.specs.Bus.{Bus, IsOverheard}
+use Rattle.lapd_side_events.specs.SideView.{SideView, SideEvent, Take, Lose, Expire, Ask, Overhear, does}
+use Rattle.lapd_side_events.specs.Interface.{Configs}
+use Rattle.lapd_side_events.specs.Bus.{Bus, IsOverheard}
 
 overheard_take : (c : Configs) (now : ℕ) (t other : SideView User) (b : Bus) (line : List (List ℕ))
     → IsOverheard c (Take now) t (record other { outgoing = line }) b

@@ -19,12 +19,12 @@ use Rattle.lapd_sides.specs.Management.{manages}
 use Rattle.lapd_sides.specs.SideState.{link_of, expires, takes}
 use Rattle.lapd_sides.specs.Network.{assigner_acts, network_requested}
 use Rattle.lapd_sides.specs.User.{User, terminal_acts, user_requested}
-use Rattle.lapd_interface_laws.specs.Primitives.{link_primitives}
-use Rattle.lapd_interface_laws.specs.Schedule.{configs, call, IsMessage}
-use Rattle.lapd_interface.specs.SideView.{SideView, does}
-use Rattle.lapd_interface_laws.proofs.Computed.{Fits, holding, with_octets, with_both}
+use Rattle.lapd_two_side_laws.specs.Primitives.{link_primitives}
+use Rattle.lapd_two_side_laws.specs.Schedule.{configs, call, IsMessage}
+use Rattle.lapd_side_events.specs.SideView.{SideView, does}
+use Rattle.lapd_two_side_laws.proofs.Computed.{Fits, holding, with_octets, with_both}
 use Rattle.lapd_bus_laws.specs.Assignments.{holds, IsSingle}
-use Rattle.lapd_interface.specs.Bus.{bus_step, from_now, after_events}
+use Rattle.lapd_side_events.specs.Bus.{bus_step, from_now, after_events}
 use Rattle.lapd_bus_laws.specs.Holdings.{AssignsFree, RequestsByItsOwn, JoinsWithFree, IsOfBus, KeepsTeisApart, IsReached, Assigns, IsOnlyClaimant, IsClear, KeepsHolding}
 use Rattle.lapd_bus_laws.specs.Links.{Throughout}
 use Rattle.lapd_bus_laws.specs.Runs.{two_fixed, fixed_call, fixed_talks, requested_bus, from_assignment, KeepsAllButAssignment, KeepsAllButReference, KeepsAllButJoining, second_call, two_terminals, both_request, assigns_first, talking, moved, assigned_while_held, assigned_in_transit, twins, same_reference, answered_before, joins_with_held, same_fixed, waiting_terminal, other_random}

@@ -14,11 +14,11 @@ use Rattle.lapd_tei.specs.Out.{assigned, check_request, remove}
 use Rattle.lapd_tei.specs.Terminal.{tei_of, reference_of, new_terminal, terminal_step}
 use Rattle.lapd_sides_links.specs.Links.{Reaction}
 use Rattle.lapd_sides.specs.User.{User, new_user, has_tei}
-use Rattle.lapd_interface.specs.Interface.{Configs, user_behaviour}
-use Rattle.lapd_interface.specs.SideView.{SideView, SideEvent, Take, Lose, Expire, Ask, Overhear, reaction, left, does}
-use Rattle.lapd_interface_laws.proofs.Managed.{neither}
+use Rattle.lapd_side_events.specs.Interface.{Configs, user_behaviour}
+use Rattle.lapd_side_events.specs.SideView.{SideView, SideEvent, Take, Lose, Expire, Ask, Overhear, reaction, left, does}
+use Rattle.lapd_two_side_laws.proofs.Managed.{neither}
 use Rattle.lapd_bus_laws.specs.Assignments.{assignment_in, holds, is_of_tei, is_sent, is_taken}
-use Rattle.lapd_interface.specs.Bus.{NewTerminal, OverhearsNothing, reached_by}
+use Rattle.lapd_side_events.specs.Bus.{NewTerminal, OverhearsNothing, reached_by}
 use Rattle.lapd_bus_laws.specs.Healing.{message_in, messages_to, messages_from, is_about, has_outgoing, LosesNoMessage}
 use Rattle.lapd_bus_laws.proofs.Carried.{HasLast, last_before, last_behind, TakesLast, last_left, about_names, assigned_on, reached_sent, reached_taken}
 use Rattle.lapd_bus_laws.proofs.CheckRows.{AssignsNone}

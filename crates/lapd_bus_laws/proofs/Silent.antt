@@ -8,14 +8,14 @@ use Rattle.lapd_table.specs.declared.link_id.LinkId.{LinkId}
 use Rattle.lapd_sides_links.specs.declared.config.Config.{Config}
 use Rattle.lapd_sides_links.specs.Links.{Reaction}
 use Rattle.lapd_sides.specs.User.{User}
-use Rattle.lapd_interface_laws.specs.Addressed.{is_for, those_for}
-use Rattle.lapd_interface.specs.Interface.{fresh_link, user_behaviour}
-use Rattle.lapd_interface_laws.specs.Owed.{IsUnmovedBy}
-use Rattle.lapd_interface_laws.specs.Premises.{is_removal, IsGivenOnce}
-use Rattle.lapd_interface_laws.specs.Primitives.{what_for, link_primitives}
-use Rattle.lapd_interface.specs.SideView.{Behaviour, SideView, SideEvent, reaction, does}
-use Rattle.lapd_interface_laws.proofs.Users.{reacts_without}
-use Rattle.lapd_interface_laws.proofs.Reactions.{moment_or}
+use Rattle.lapd_two_side_laws.specs.Addressed.{is_for, those_for}
+use Rattle.lapd_side_events.specs.Interface.{fresh_link, user_behaviour}
+use Rattle.lapd_two_side_laws.specs.Owed.{IsUnmovedBy}
+use Rattle.lapd_two_side_laws.specs.Premises.{is_removal, IsGivenOnce}
+use Rattle.lapd_two_side_laws.specs.Primitives.{what_for, link_primitives}
+use Rattle.lapd_side_events.specs.SideView.{Behaviour, SideView, SideEvent, reaction, does}
+use Rattle.lapd_two_side_laws.proofs.Users.{reacts_without}
+use Rattle.lapd_two_side_laws.proofs.Reactions.{moment_or}
 
 module _ (config : Config) (id : LinkId) (low : id.tei < 127) where
   abbrev W : Behaviour User

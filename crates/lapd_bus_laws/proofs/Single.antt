@@ -8,12 +8,12 @@ use Rattle.lapd_tei.specs.Terminal.{tei_of, new_terminal}
 use Rattle.lapd_sides_links.specs.Links.{Reaction, links_below}
 use Rattle.lapd_sides.specs.Network.{Network, new_network}
 use Rattle.lapd_sides.specs.User.{User, new_user, has_tei}
-use Rattle.lapd_interface.specs.Interface.{Configs, user_behaviour, network_behaviour}
-use Rattle.lapd_interface.specs.SideView.{SideView, SideEvent, reaction, does}
-use Rattle.lapd_interface_laws.proofs.AsMade.{new_are_own, new_are_held}
-use Rattle.lapd_interface_laws.proofs.OwnSides.{AreHeld, network_preserves, AreOwn, user_preserves}
+use Rattle.lapd_side_events.specs.Interface.{Configs, user_behaviour, network_behaviour}
+use Rattle.lapd_side_events.specs.SideView.{SideView, SideEvent, reaction, does}
+use Rattle.lapd_two_side_laws.proofs.AsMade.{new_are_own, new_are_held}
+use Rattle.lapd_two_side_laws.proofs.OwnSides.{AreHeld, network_preserves, AreOwn, user_preserves}
 use Rattle.lapd_bus_laws.specs.Assignments.{Assignment, holds, awaited, awaits, is_offer, is_taken, IsSingle}
-use Rattle.lapd_interface.specs.Bus.{Bus, BusEvent, OfTerminal, OfNetwork, Join, Restart, NewTerminal, connected, new_bus, OverhearsNothing, reached_by, left_of, on_line_of, terminal_does, network_does, terminal_joins, bus_step, after_events}
+use Rattle.lapd_side_events.specs.Bus.{Bus, BusEvent, OfTerminal, OfNetwork, Join, Restart, NewTerminal, connected, new_bus, OverhearsNothing, reached_by, left_of, on_line_of, terminal_does, network_does, terminal_joins, bus_step, after_events}
 use Rattle.lapd_bus_laws.specs.Holdings.{AssignsFree, RequestsByItsOwn, JoinsWithFree, KeepsTeisApart}
 use Rattle.lapd_bus_laws.specs.Links.{Throughout}
 use Rattle.lapd_bus_laws.proofs.Assigns.{HasNoManagementLink, AssignsAtMostOne, event_assigns}

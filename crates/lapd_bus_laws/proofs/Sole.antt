@@ -11,19 +11,19 @@ use Rattle.lapd_tei.specs.Terminal.{tei_of, new_terminal}
 use Rattle.lapd_table.specs.declared.link_id.LinkId.{LinkId}
 use Rattle.lapd_sides_links.specs.Links.{is_served, new_linked, or_new, parameters_for, with_tei}
 use Rattle.lapd_sides.specs.User.{User, new_user, links_of_fixed, has_tei}
-use Rattle.lapd_interface_laws.specs.Addressed.{is_for, those_for}
-use Rattle.lapd_interface.specs.Interface.{Configs, Interface, Move, happens, run, from_here, user_behaviour, network_behaviour}
-use Rattle.lapd_interface_laws.specs.Premises.{AreTimely, GiveTeiOnce, SatisfyPremises}
-use Rattle.lapd_interface_laws.specs.Projects.{IsSafeAt}
-use Rattle.lapd_interface.specs.SideView.{SideView, SideEvent, Take, Lose, Expire, Ask, Overhear, reaction, left, does}
-use Rattle.lapd_interface_laws.proofs.Managed.{and_not}
-use Rattle.lapd_interface_laws.proofs.Whole.{link_safe_as}
+use Rattle.lapd_two_side_laws.specs.Addressed.{is_for, those_for}
+use Rattle.lapd_side_events.specs.Interface.{Configs, Interface, Move, happens, run, from_here, user_behaviour, network_behaviour}
+use Rattle.lapd_two_side_laws.specs.Premises.{AreTimely, GiveTeiOnce, SatisfyPremises}
+use Rattle.lapd_two_side_laws.specs.Projects.{IsSafeAt}
+use Rattle.lapd_side_events.specs.SideView.{SideView, SideEvent, Take, Lose, Expire, Ask, Overhear, reaction, left, does}
+use Rattle.lapd_two_side_laws.proofs.Managed.{and_not}
+use Rattle.lapd_two_side_laws.proofs.Whole.{link_safe_as}
 use Rattle.lapd_bus_laws.specs.Assignments.{holds}
-use Rattle.lapd_interface.specs.Bus.{Bus, BusEvent, OfTerminal, OfNetwork, Join, Restart, NewTerminal, KeepsTerminal, OverhearsNothing, recorded_anew, from_now, reached_by, left_of, on_line_of, terminal_does, network_does, terminal_joins, bus_step, after_events, interface_of, overheard, by_network_of, network_moves, terminal_moves, moves_of, moves_along}
+use Rattle.lapd_side_events.specs.Bus.{Bus, BusEvent, OfTerminal, OfNetwork, Join, Restart, NewTerminal, KeepsTerminal, OverhearsNothing, recorded_anew, from_now, reached_by, left_of, on_line_of, terminal_does, network_does, terminal_joins, bus_step, after_events, interface_of, overheard, by_network_of, network_moves, terminal_moves, moves_of, moves_along}
 use Rattle.lapd_bus_laws.specs.Links.{Throughout, IsTimelyFor, IsNotAssigned, AssignsOthers, ObtainsOnce, IsAside, IsSole, IsNewHere, IsNobodyElses}
 use Rattle.lapd_bus_laws.proofs.Followed.{one_event}
 use Rattle.lapd_bus_laws.proofs.Lists.{Others, others_set, others_map, false_by, none_first, none_dropped, none_removed}
-use Rattle.lapd_interface.proofs.Indices.{equal_index, apart_index}
+use Rattle.lapd_side_events.proofs.Indices.{equal_index, apart_index}
 use Rattle.lapd_bus_laws.proofs.Obtains.{event_obtains}
 use Rattle.lapd_bus_laws.proofs.Silent.{StaysSilent, stays_silent}
 

@@ -16,8 +16,8 @@ use Rattle.lapd_tei.specs.Message.{message_at}
 use Rattle.lapd_tei.specs.Terminal.{tei_of}
 use Rattle.lapd_sides.specs.Management.{carries_message}
 use Rattle.lapd_sides.specs.User.{User, has_tei}
-use Rattle.lapd_interface.specs.SideView.{SideView}
-use Rattle.lapd_interface.specs.Bus.{Bus}
+use Rattle.lapd_side_events.specs.SideView.{SideView}
+use Rattle.lapd_side_events.specs.Bus.{Bus}
 
 -- ---- Assignments in transit.
 

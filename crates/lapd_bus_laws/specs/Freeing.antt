@@ -4,11 +4,11 @@ use Rattle.std.specs.Prelude.{◌≡◌, ℕ, ◌≤◌, true, false, slice_get,
 use Rattle.std.specs.List.{list_any}
 use Rattle.lapd_tei.specs.Assigner.{is_held, known_held}
 use Rattle.lapd_sides.specs.User.{User}
-use Rattle.lapd_interface.specs.Interface.{Configs, network_behaviour}
-use Rattle.lapd_interface_laws.specs.Premises.{is_removal}
-use Rattle.lapd_interface.specs.SideView.{SideView, reaction}
+use Rattle.lapd_side_events.specs.Interface.{Configs, network_behaviour}
+use Rattle.lapd_two_side_laws.specs.Premises.{is_removal}
+use Rattle.lapd_side_events.specs.SideView.{SideView, reaction}
 use Rattle.lapd_bus_laws.specs.Assignments.{is_taken}
-use Rattle.lapd_interface.specs.Bus.{Bus, BusEvent, OfNetwork, Join, Restart, on_line_of}
+use Rattle.lapd_side_events.specs.Bus.{Bus, BusEvent, OfNetwork, Join, Restart, on_line_of}
 use Rattle.lapd_bus_laws.specs.Holdings.{IsOfBus}
 
 -- a terminal holds the TEI, or an assignment of it is in transit

@@ -19,10 +19,10 @@ use Rattle.lapd_table.specs.declared.link_id.LinkId.{LinkId}
 use Rattle.lapd_sides.specs.Management.{carries_message}
 use Rattle.lapd_sides.specs.Network.{Network}
 use Rattle.lapd_sides.specs.User.{User}
-use Rattle.lapd_interface.specs.Interface.{Configs}
-use Rattle.lapd_interface.specs.SideView.{SideView, SideEvent, Lose, Expire}
+use Rattle.lapd_side_events.specs.Interface.{Configs}
+use Rattle.lapd_side_events.specs.SideView.{SideView, SideEvent, Lose, Expire}
 use Rattle.lapd_bus_laws.specs.Assignments.{holds, is_sent}
-use Rattle.lapd_interface.specs.Bus.{Bus, BusEvent, OfTerminal, OfNetwork, Restart, bus_step, after_events}
+use Rattle.lapd_side_events.specs.Bus.{Bus, BusEvent, OfTerminal, OfNetwork, Restart, bus_step, after_events}
 use Rattle.lapd_bus_laws.specs.Holdings.{IsOfBus, JoinsWithFree}
 
 -- ---- TEI messages in transit.

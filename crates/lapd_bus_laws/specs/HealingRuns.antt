@@ -3,10 +3,10 @@ use Rattle.std.specs.Prelude.{List, [], ◌∷◌, ◌++◌, None}
 use Rattle.lapd_timers.specs.declared.timer.Timer.TheVariants.{T201}
 use Rattle.lapd_sides.specs.declared.request.Request.TheVariants as request
 use Rattle.lapd_sides.specs.Worked as sides
-use Rattle.lapd_interface_laws.specs.Schedule.{configs}
-use Rattle.lapd_interface.specs.SideView.{Take, Lose, Expire, Ask}
+use Rattle.lapd_two_side_laws.specs.Schedule.{configs}
+use Rattle.lapd_side_events.specs.SideView.{Take, Lose, Expire, Ask}
 use Rattle.lapd_bus_laws.specs.Assignments.{IsHeldOnce}
-use Rattle.lapd_interface.specs.Bus.{Bus, BusEvent, OfTerminal, OfNetwork, Join, Restart, new_bus, after_events}
+use Rattle.lapd_side_events.specs.Bus.{Bus, BusEvent, OfTerminal, OfNetwork, Join, Restart, new_bus, after_events}
 use Rattle.lapd_bus_laws.specs.Healing.{DeliversMessages, CarriesCheckOn, IsChecked, IsAtRest, ReferencesDiffer}
 use Rattle.lapd_bus_laws.specs.Holdings.{JoinsWithFree, IsOfBus}
 use Rattle.lapd_bus_laws.specs.Links.{Throughout}

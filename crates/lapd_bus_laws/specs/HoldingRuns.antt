@@ -6,10 +6,10 @@ use Rattle.lapd_table.specs.declared.link_id.LinkId.{LinkId}
 use Rattle.lapd_sides.specs.declared.request.Request.TheVariants as request
 use Rattle.lapd_sides.specs.User.{User}
 use Rattle.lapd_sides.specs.Worked as sides
-use Rattle.lapd_interface_laws.specs.Primitives.{given_to, known_of, IsReceived}
-use Rattle.lapd_interface_laws.specs.Schedule.{configs, call}
-use Rattle.lapd_interface.specs.SideView.{SideView, Take, Lose, Expire, Ask}
-use Rattle.lapd_interface.specs.Bus.{Bus, BusEvent, OfTerminal, OfNetwork, Join, Restart, from_now, bus_step, after_events}
+use Rattle.lapd_two_side_laws.specs.Primitives.{given_to, known_of, IsReceived}
+use Rattle.lapd_two_side_laws.specs.Schedule.{configs, call}
+use Rattle.lapd_side_events.specs.SideView.{SideView, Take, Lose, Expire, Ask}
+use Rattle.lapd_side_events.specs.Bus.{Bus, BusEvent, OfTerminal, OfNetwork, Join, Restart, from_now, bus_step, after_events}
 use Rattle.lapd_bus_laws.specs.Holdings.{RequestsByItsOwn, LeavesAlone}
 use Rattle.lapd_bus_laws.specs.Links.{Throughout, IsTimelyFor, AssignsOthers}
 use Rattle.lapd_bus_laws.specs.Runs.{two_terminals, twins, first_alone, assigns_first}

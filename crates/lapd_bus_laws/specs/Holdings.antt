@@ -6,12 +6,12 @@ use Rattle.lapd_frame.specs.declared.Side.TheVariants as side
 use Rattle.lapd_table.specs.declared.link_id.LinkId.{LinkId}
 use Rattle.lapd_sides_links.specs.Effects.{Effects}
 use Rattle.lapd_sides.specs.User.{User}
-use Rattle.lapd_interface_laws.specs.Addressed.{those_for}
-use Rattle.lapd_interface.specs.Interface.{Configs, user_behaviour, network_behaviour}
-use Rattle.lapd_interface_laws.specs.Premises.{is_assignment}
-use Rattle.lapd_interface.specs.SideView.{SideView, reaction, does}
+use Rattle.lapd_two_side_laws.specs.Addressed.{those_for}
+use Rattle.lapd_side_events.specs.Interface.{Configs, user_behaviour, network_behaviour}
+use Rattle.lapd_two_side_laws.specs.Premises.{is_assignment}
+use Rattle.lapd_side_events.specs.SideView.{SideView, reaction, does}
 use Rattle.lapd_bus_laws.specs.Assignments.{is_taken, awaits, is_answered, claims}
-use Rattle.lapd_interface.specs.Bus.{Bus, BusEvent, OfTerminal, OfNetwork, Join, NewTerminal, new_bus, OverhearsNothing, KeepsTerminal, on_line_of, after_events}
+use Rattle.lapd_side_events.specs.Bus.{Bus, BusEvent, OfTerminal, OfNetwork, Join, NewTerminal, new_bus, OverhearsNothing, KeepsTerminal, on_line_of, after_events}
 use Rattle.lapd_bus_laws.specs.Links.{Throughout, OfOthers, IsTimelyFor, AssignsOthers}
 
 -- ---- The premises on TEIs, of one event.

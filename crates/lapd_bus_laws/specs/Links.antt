@@ -7,14 +7,14 @@ use Rattle.lapd_link_definition.specs.Parameters.{Parameters}
 use Rattle.lapd_table.specs.declared.link_id.LinkId.{LinkId}
 use Rattle.lapd_sides_links.specs.Effects.{Effects}
 use Rattle.lapd_sides.specs.User.{User}
-use Rattle.lapd_interface_laws.specs.Addressed.{those_for}
-use Rattle.lapd_interface.specs.Interface.{Configs, fresh_link, user_behaviour, network_behaviour}
-use Rattle.lapd_interface_laws.specs.Premises.{IsTimely, GivesTeiOnce, is_assignment}
-use Rattle.lapd_interface_laws.specs.Primitives.{link_primitives}
-use Rattle.lapd_interface_laws.specs.Projects.{HasLink, AwaitsLink}
-use Rattle.lapd_interface.specs.SideView.{SideView, reaction}
+use Rattle.lapd_two_side_laws.specs.Addressed.{those_for}
+use Rattle.lapd_side_events.specs.Interface.{Configs, fresh_link, user_behaviour, network_behaviour}
+use Rattle.lapd_two_side_laws.specs.Premises.{IsTimely, GivesTeiOnce, is_assignment}
+use Rattle.lapd_two_side_laws.specs.Primitives.{link_primitives}
+use Rattle.lapd_two_side_laws.specs.Projects.{HasLink, AwaitsLink}
+use Rattle.lapd_side_events.specs.SideView.{SideView, reaction}
 use Rattle.lapd_bus_laws.specs.Assignments.{holds}
-use Rattle.lapd_interface.specs.Bus.{Bus, BusEvent, OfTerminal, OfNetwork, Join, Restart, on_line_of, bus_step}
+use Rattle.lapd_side_events.specs.Bus.{Bus, BusEvent, OfTerminal, OfNetwork, Join, Restart, on_line_of, bus_step}
 
 -- Each of these events has this property, in the bus that it happens on.
 abbrev pub Throughout : Configs → (BusEvent → Bus → Type 0) → List BusEvent → Bus → Type 0

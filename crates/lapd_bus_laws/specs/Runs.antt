@@ -8,9 +8,9 @@ use Rattle.lapd_table.specs.declared.link_id.LinkId.{LinkId}
 use Rattle.lapd_sides_links.specs.Links.{of_sapi}
 use Rattle.lapd_sides.specs.declared.request.Request.TheVariants as request
 use Rattle.lapd_sides.specs.Worked as sides
-use Rattle.lapd_interface_laws.specs.Schedule.{configs, call}
-use Rattle.lapd_interface.specs.SideView.{Take, Lose, Ask}
-use Rattle.lapd_interface.specs.Bus.{Bus, BusEvent, OfTerminal, OfNetwork, Join, NewTerminal, new_bus, from_now, bus_step, after_events}
+use Rattle.lapd_two_side_laws.specs.Schedule.{configs, call}
+use Rattle.lapd_side_events.specs.SideView.{Take, Lose, Ask}
+use Rattle.lapd_side_events.specs.Bus.{Bus, BusEvent, OfTerminal, OfNetwork, Join, NewTerminal, new_bus, from_now, bus_step, after_events}
 use Rattle.lapd_bus_laws.specs.Holdings.{AssignsFree, RequestsByItsOwn, JoinsWithFree, IsOfBus}
 use Rattle.lapd_bus_laws.specs.Links.{Throughout}
 

@@ -2,11 +2,11 @@
 
 ghost use Rattle.std.specs.Prelude.{◌≡◌, ◌<◌, ℕ, List, ◌∷◌, [], map, true, false};
 ghost use Rattle.lapd_sides.specs.User.{User};
-ghost use Rattle.lapd_interface.specs.Interface.{Configs};
-ghost use Rattle.lapd_interface_laws.specs.Schedule.{configs};
-ghost use Rattle.lapd_interface.specs.SideView.{SideView};
+ghost use Rattle.lapd_side_events.specs.Interface.{Configs};
+ghost use Rattle.lapd_two_side_laws.specs.Schedule.{configs};
+ghost use Rattle.lapd_side_events.specs.SideView.{SideView};
 ghost use Rattle.lapd_bus_laws.specs.Assignments.{holds, IsSingle, IsHeldOnce};
-ghost use Rattle.lapd_interface.specs.Bus.{Bus, BusEvent, NewTerminal, new_bus, after_events};
+ghost use Rattle.lapd_side_events.specs.Bus.{Bus, BusEvent, NewTerminal, new_bus, after_events};
 ghost use Rattle.lapd_bus_laws.specs.Healing.{Heals, HasNoManagementLink, IsChecked, IsAtRest, ReferencesDiffer, HoldTeis};
 ghost use Rattle.lapd_bus_laws.specs.HealingRuns.{doubled, unknown, healed, assigned_anew, IsNotHealed, HealsButDelivery, HealsButCheck, HealsButJoining, request_lost, too_early, given_up, joins_during, same_then, begun, before_removals, before_rest};
 ghost use Rattle.lapd_bus_laws.specs.Holdings.{AreApart, IsOfBus, IsReached};

@@ -4,11 +4,11 @@ ghost use Rattle.std.specs.Prelude.{◌≡◌, ◌<◌, ◌≤◌, ℕ, List, sl
 ghost use Rattle.lapd_table.specs.declared.link_id.LinkId.{LinkId};
 ghost use Rattle.lapd_sides.specs.User.{User};
 ghost use Rattle.lapd_sides_links.specs.Links.{parameters_for};
-ghost use Rattle.lapd_interface.specs.Interface.{Configs, from_here};
-ghost use Rattle.lapd_interface_laws.specs.Projects.{IsSafeAt};
-ghost use Rattle.lapd_interface.specs.SideView.{SideView};
+ghost use Rattle.lapd_side_events.specs.Interface.{Configs, from_here};
+ghost use Rattle.lapd_two_side_laws.specs.Projects.{IsSafeAt};
+ghost use Rattle.lapd_side_events.specs.SideView.{SideView};
 ghost use Rattle.lapd_bus_laws.specs.Assignments.{claims, IsSingle};
-ghost use Rattle.lapd_interface.specs.Bus.{Bus, BusEvent, NewTerminal, new_bus, bus_step, after_events, from_now, interface_of, moves_along};
+ghost use Rattle.lapd_side_events.specs.Bus.{Bus, BusEvent, NewTerminal, new_bus, bus_step, after_events, from_now, interface_of, moves_along};
 ghost use Rattle.lapd_bus_laws.specs.Freeing.{KnowsTeisInUse, LosesNone};
 ghost use Rattle.lapd_bus_laws.specs.Holdings.{AssignsFree, KeepsTeisApart, IsReached, Assigns, IsOnlyClaimant, IsClear, IsClearToNetwork, KeepsHolding};
 ghost use Rattle.lapd_bus_laws.specs.Links.{Throughout, IsNobodyElses};
@@ -53,7 +53,7 @@ pub fn every_bus_is_single()
 ///
 /// - `one`: at most one terminal holds the TEI or may still take it.
 /// - `safe`: the link between the network and that terminal is safe, in both directions, as for two
-///   sides (`each_link_is_safe` of `lapd_interface_laws`). Primitives and messages count from the
+///   sides (`each_link_is_safe` of `lapd_two_side_laws`). Primitives and messages count from the
 ///   assignment on.
 /// - `nobody_elses`: no other terminal delivers anything about the link, with octets of it in
 ///   transit to the terminal or not.

@@ -5,10 +5,10 @@ ghost use Rattle.std.specs.List.{AllByRecursion};
 ghost use Rattle.lapd_link_definition.specs.Parameters.{Parameters};
 ghost use Rattle.lapd_table.specs.declared.link_id.LinkId.{LinkId};
 ghost use Rattle.lapd_sides.specs.User.{User};
-ghost use Rattle.lapd_interface.specs.Interface.{Configs, from_here};
-ghost use Rattle.lapd_interface_laws.specs.Projects.{IsSafeAt};
-ghost use Rattle.lapd_interface.specs.SideView.{SideView, SideEvent};
-ghost use Rattle.lapd_interface.specs.Bus.{Bus, BusEvent, KeepsTerminal, IsOverheard, Follows, interface_of, moves_along, from_now, after_events};
+ghost use Rattle.lapd_side_events.specs.Interface.{Configs, from_here};
+ghost use Rattle.lapd_two_side_laws.specs.Projects.{IsSafeAt};
+ghost use Rattle.lapd_side_events.specs.SideView.{SideView, SideEvent};
+ghost use Rattle.lapd_side_events.specs.Bus.{Bus, BusEvent, KeepsTerminal, IsOverheard, Follows, interface_of, moves_along, from_now, after_events};
 ghost use Rattle.lapd_bus_laws.specs.Links.{Throughout, IsTimelyFor, AssignsOthers, ObtainsOnce, IsSole, IsNewHere, IsNobodyElses};
 
 /// Each run of a bus is a run of the network and one terminal, for each of the terminals.
@@ -37,7 +37,7 @@ pub fn each_run_is_a_run_of_two_sides()
 ///
 /// The network does not restart, and this terminal is not replaced (`KeepsTerminal`).
 ///
-/// `safe`: safe is said as for two sides (`each_link_is_safe` of `lapd_interface_laws`), of primitives
+/// `safe`: safe is said as for two sides (`each_link_is_safe` of `lapd_two_side_laws`), of primitives
 /// and messages from that moment on. `nobody_elses`: no other terminal delivers anything about the
 /// link.
 pub fn each_terminals_link_is_safe()

@@ -1,7 +1,7 @@
 //! A bus of sides, after ITU-T Q.921 (09/97): one network side and any number of terminals.
 //!
-//! The laws of two sides (`lapd_interface_laws`) are applied here to a passive bus: a [`NetSide`] and a
-//! [`UserSide`] for each terminal. Nothing here runs. A bus and its events are defined in `lapd_interface`. The definitions, in the
+//! The laws of two sides (`lapd_two_side_laws`) are applied here to a passive bus: a [`NetSide`] and a
+//! [`UserSide`] for each terminal. Nothing here runs. A bus and its events are defined in `lapd_side_events`. The definitions, in the
 //! order of specs/:
 //!
 //! - `Assignments`: the assignments in transit to a terminal, and the terminals that hold a TEI,

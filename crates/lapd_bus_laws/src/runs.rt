@@ -4,11 +4,11 @@ ghost use Rattle.std.specs.Prelude.{◌≡◌, ℕ, List, [], ◌∷◌, Vec, ma
 ghost use Rattle.std.specs.declared.alloc.Global.{Global};
 ghost use Rattle.lapd_sides.specs.User.{User};
 ghost use Rattle.lapd_sides_links.specs.declared.primitive.What.TheVariants as what;
-ghost use Rattle.lapd_interface_laws.specs.Primitives.{link_primitives, AreExpectedOfLink};
-ghost use Rattle.lapd_interface_laws.specs.Schedule.{configs, call, IsMessage};
-ghost use Rattle.lapd_interface.specs.SideView.{SideView};
+ghost use Rattle.lapd_two_side_laws.specs.Primitives.{link_primitives, AreExpectedOfLink};
+ghost use Rattle.lapd_two_side_laws.specs.Schedule.{configs, call, IsMessage};
+ghost use Rattle.lapd_side_events.specs.SideView.{SideView};
 ghost use Rattle.lapd_bus_laws.specs.Assignments.{holds, IsSingle};
-ghost use Rattle.lapd_interface.specs.Bus.{Bus, BusEvent, bus_step, from_now, after_events};
+ghost use Rattle.lapd_side_events.specs.Bus.{Bus, BusEvent, bus_step, from_now, after_events};
 ghost use Rattle.lapd_bus_laws.specs.HoldingRuns.{IsReceivedByTerminal, IsReceivedByNetwork, KeepsAllButT200, KeepsAllButAssigning, KeepsAllButRequesting, KeepsAllButLeaving, joined, replaced, restarted, from_first, hasty, regained, assigns_second, with_old_sabme, answers_old, from_twins, taken_twice};
 ghost use Rattle.lapd_bus_laws.specs.Holdings.{KeepsTeisApart, IsReached, Assigns, IsOnlyClaimant, IsClear, KeepsHolding};
 ghost use Rattle.lapd_bus_laws.specs.Links.{Throughout, IsNobodyElses};

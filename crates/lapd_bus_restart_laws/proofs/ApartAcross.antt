@@ -7,12 +7,12 @@ use Rattle.lapd_sides_links.specs.Links.{Linked}
 use Rattle.lapd_sides_links.specs.declared.config.Config.{Config}
 use Rattle.lapd_sides.specs.Network.{Network, new_network}
 use Rattle.lapd_sides.specs.User.{User, new_user, has_tei}
-use Rattle.lapd_interface.specs.Interface.{Configs}
-use Rattle.lapd_interface.specs.SideView.{SideView}
-use Rattle.lapd_interface_laws.proofs.AsMade.{new_are_own, new_are_held}
-use Rattle.lapd_interface_laws.proofs.OwnSides.{AreHeld, AreOwn}
+use Rattle.lapd_side_events.specs.Interface.{Configs}
+use Rattle.lapd_side_events.specs.SideView.{SideView}
+use Rattle.lapd_two_side_laws.proofs.AsMade.{new_are_own, new_are_held}
+use Rattle.lapd_two_side_laws.proofs.OwnSides.{AreHeld, AreOwn}
 use Rattle.lapd_bus_laws.specs.Assignments.{awaited, is_taken, IsSingle}
-use Rattle.lapd_interface.specs.Bus.{Bus, BusEvent, OfTerminal, OfNetwork, Join, Restart, NewTerminal}
+use Rattle.lapd_side_events.specs.Bus.{Bus, BusEvent, OfTerminal, OfNetwork, Join, Restart, NewTerminal}
 use Rattle.lapd_bus_laws.specs.Holdings.{JoinsWithFree, KeepsTeisApart}
 use Rattle.lapd_bus_laws.proofs.Apart.{kept_apart}
 use Rattle.lapd_bus_laws.proofs.Assigns.{HasNoManagementLink}

@@ -8,13 +8,13 @@ use Rattle.lapd_tei.specs.Terminal.{tei_of, new_terminal}
 use Rattle.lapd_table.specs.declared.link_id.LinkId.{LinkId}
 use Rattle.lapd_sides_links.specs.Links.{Links, is_served, new_linked, or_new, parameters_for, with_tei}
 use Rattle.lapd_sides.specs.User.{User, new_user, links_of_fixed}
-use Rattle.lapd_interface_laws.specs.Addressed.{is_for, those_for}
-use Rattle.lapd_interface.specs.Interface.{Configs, user_behaviour, network_behaviour}
-use Rattle.lapd_interface_laws.specs.Primitives.{what_for, link_primitives}
-use Rattle.lapd_interface.specs.SideView.{SideView, SideEvent, Take, Lose, Expire, Ask, Overhear, reaction, left, does}
-use Rattle.lapd_interface_laws.proofs.Managed.{and_not}
+use Rattle.lapd_two_side_laws.specs.Addressed.{is_for, those_for}
+use Rattle.lapd_side_events.specs.Interface.{Configs, user_behaviour, network_behaviour}
+use Rattle.lapd_two_side_laws.specs.Primitives.{what_for, link_primitives}
+use Rattle.lapd_side_events.specs.SideView.{SideView, SideEvent, Take, Lose, Expire, Ask, Overhear, reaction, left, does}
+use Rattle.lapd_two_side_laws.proofs.Managed.{and_not}
 use Rattle.lapd_bus_laws.specs.Assignments.{holds}
-use Rattle.lapd_interface.specs.Bus.{Bus, BusEvent, OfTerminal, OfNetwork, Join, Restart, NewTerminal, OverhearsNothing, recorded_anew, from_now, reached_by, left_of, on_line_of, terminal_does, network_does}
+use Rattle.lapd_side_events.specs.Bus.{Bus, BusEvent, OfTerminal, OfNetwork, Join, Restart, NewTerminal, OverhearsNothing, recorded_anew, from_now, reached_by, left_of, on_line_of, terminal_does, network_does}
 use Rattle.lapd_bus_laws.specs.Holdings.{IsOfBus}
 use Rattle.lapd_bus_laws.specs.Links.{IsNotAssigned, ObtainsOnce, IsAside, IsSole, IsNobodyElses}
 use Rattle.lapd_bus_laws.proofs.Lists.{Others, others_set, others_map, false_by, none_dropped, none_removed}

@@ -6,12 +6,12 @@ use Rattle.std.specs.List.{list_any}
 use Rattle.lapd_frame.specs.declared.Side.TheVariants as side
 use Rattle.lapd_table.specs.declared.link_id.LinkId.{LinkId}
 use Rattle.lapd_sides.specs.User.{User}
-use Rattle.lapd_interface.specs.Bus.{Bus, OfNetwork, reached_by, left_of, on_line_of, network_does, bus_step, interface_of}
-use Rattle.lapd_interface.specs.Interface.{Configs, Interface, network_behaviour, from_here}
-use Rattle.lapd_interface.specs.SideView.{SideView, SideEvent, reaction}
-use Rattle.lapd_interface_laws.specs.Addressed.{is_for, those_for}
-use Rattle.lapd_interface_laws.specs.Establishments.{LinkRecords}
-use Rattle.lapd_interface_laws.proofs.Managed.{neither}
+use Rattle.lapd_side_events.specs.Bus.{Bus, OfNetwork, reached_by, left_of, on_line_of, network_does, bus_step, interface_of}
+use Rattle.lapd_side_events.specs.Interface.{Configs, Interface, network_behaviour, from_here}
+use Rattle.lapd_side_events.specs.SideView.{SideView, SideEvent, reaction}
+use Rattle.lapd_two_side_laws.specs.Addressed.{is_for, those_for}
+use Rattle.lapd_two_side_laws.specs.Establishments.{LinkRecords}
+use Rattle.lapd_two_side_laws.proofs.Managed.{neither}
 use Rattle.lapd_bus_laws.specs.Assignments.{holds, is_sent, is_taken}
 use Rattle.lapd_bus_laws.specs.Holdings.{Assigns, IsClearToNetwork, KeepsTeisApart}
 use Rattle.lapd_bus_laws.proofs.Lists.{Each, any_at, each_set, map_back}

@@ -6,11 +6,11 @@ use Rattle.std.proofs.lemmas.Option.{slice_get-map}
 use Rattle.lapd_table.specs.declared.link_id.LinkId.{LinkId}
 use Rattle.lapd_sides_links.specs.Links.{parameters_for}
 use Rattle.lapd_sides.specs.User.{User}
-use Rattle.lapd_interface.specs.Bus.{Bus, BusEvent, OfTerminal, OfNetwork, Join, Restart, recorded_anew, from_now, reached_by, bus_step, interface_of, moves_of}
-use Rattle.lapd_interface.specs.Interface.{Configs, Interface, Move, from_here}
-use Rattle.lapd_interface.specs.SideView.{SideView, SideEvent}
-use Rattle.lapd_interface.proofs.Indices.{equal_index}
-use Rattle.lapd_interface_laws.specs.Establishments.{nothing_recorded}
+use Rattle.lapd_side_events.specs.Bus.{Bus, BusEvent, OfTerminal, OfNetwork, Join, Restart, recorded_anew, from_now, reached_by, bus_step, interface_of, moves_of}
+use Rattle.lapd_side_events.specs.Interface.{Configs, Interface, Move, from_here}
+use Rattle.lapd_side_events.specs.SideView.{SideView, SideEvent}
+use Rattle.lapd_side_events.proofs.Indices.{equal_index}
+use Rattle.lapd_two_side_laws.specs.Establishments.{nothing_recorded}
 use Rattle.lapd_bus_laws.specs.Assignments.{is_taken}
 use Rattle.lapd_bus_laws.specs.Holdings.{Assigns, IsClearToNetwork, IsOfBus, IsOnlyClaimant, KeepsTeisApart}
 use Rattle.lapd_bus_laws.proofs.Single.{KeepsApart}

@@ -7,13 +7,13 @@ use Rattle.lapd_tei.proofs.PreservedByBus.{get_after_set}
 use Rattle.lapd_table.specs.declared.link_id.LinkId.{LinkId}
 use Rattle.lapd_sides_links.specs.Links.{parameters_for}
 use Rattle.lapd_sides.specs.User.{User, new_user}
-use Rattle.lapd_interface.specs.Bus.{Bus, BusEvent, OfTerminal, OfNetwork, Join, Restart, NewTerminal, KeepsTerminal, recorded_anew, from_now, reached_by, terminal_joins, bus_step, interface_of, overheard, by_network_of, network_moves, terminal_moves, moves_of, moves_along}
-use Rattle.lapd_interface.specs.Interface.{Configs, Interface, Move, happens, run, from_here}
-use Rattle.lapd_interface.specs.SideView.{SideView, SideEvent}
-use Rattle.lapd_interface_laws.specs.Establishments.{nothing_recorded, records_of}
-use Rattle.lapd_interface_laws.specs.Premises.{SatisfyPremises}
-use Rattle.lapd_interface_laws.specs.Projects.{IsRight}
-use Rattle.lapd_interface_laws.proofs.Whole.{link_safe_as}
+use Rattle.lapd_side_events.specs.Bus.{Bus, BusEvent, OfTerminal, OfNetwork, Join, Restart, NewTerminal, KeepsTerminal, recorded_anew, from_now, reached_by, terminal_joins, bus_step, interface_of, overheard, by_network_of, network_moves, terminal_moves, moves_of, moves_along}
+use Rattle.lapd_side_events.specs.Interface.{Configs, Interface, Move, happens, run, from_here}
+use Rattle.lapd_side_events.specs.SideView.{SideView, SideEvent}
+use Rattle.lapd_two_side_laws.specs.Establishments.{nothing_recorded, records_of}
+use Rattle.lapd_two_side_laws.specs.Premises.{SatisfyPremises}
+use Rattle.lapd_two_side_laws.specs.Projects.{IsRight}
+use Rattle.lapd_two_side_laws.proofs.Whole.{link_safe_as}
 use Rattle.lapd_bus_laws.specs.Assignments.{is_taken, claims}
 use Rattle.lapd_bus_laws.specs.Holdings.{Assigns, IsClearToNetwork, IsOnlyClaimant, IsReached, KeepsHolding, KeepsTeisApart, LeavesAlone}
 use Rattle.lapd_bus_laws.specs.Links.{Throughout}

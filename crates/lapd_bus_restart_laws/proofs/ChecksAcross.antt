@@ -9,14 +9,14 @@ use Rattle.lapd_table.specs.declared.link_id.LinkId.{LinkId}
 use Rattle.lapd_sides_links.specs.Links.{Links}
 use Rattle.lapd_sides.specs.Network.{new_network}
 use Rattle.lapd_sides.specs.User.{new_user, has_tei}
-use Rattle.lapd_interface.specs.Interface.{Configs}
-use Rattle.lapd_interface_laws.specs.Premises.{is_removal}
-use Rattle.lapd_interface.specs.SideView.{SideView}
-use Rattle.lapd_interface.specs.Bus.{Bus, BusEvent, OfTerminal, OfNetwork, Join, Restart, on_line_of}
+use Rattle.lapd_side_events.specs.Interface.{Configs}
+use Rattle.lapd_two_side_laws.specs.Premises.{is_removal}
+use Rattle.lapd_side_events.specs.SideView.{SideView}
+use Rattle.lapd_side_events.specs.Bus.{Bus, BusEvent, OfTerminal, OfNetwork, Join, Restart, on_line_of}
 use Rattle.lapd_bus_laws.specs.Holdings.{RequestsByItsOwn, RequestsUnanswered}
 use Rattle.lapd_bus_laws.proofs.Checks.{where_there, there_so, of_bus, of_bus_so, timely_for, timely_for_so, assigns_others, assigns_others_so, requests_by_its_own, requests_by_its_own_so}
 use Rattle.lapd_bus_laws.proofs.Lists.{both_so}
-use Rattle.lapd_interface.proofs.Indices.{equal_index}
+use Rattle.lapd_side_events.proofs.Indices.{equal_index}
 use Rattle.lapd_bus_laws.proofs.Sole.{has_not}
 use Rattle.lapd_restart_laws.specs.Exchanges.{is_command, is_answer, is_of_kind_for}
 use Rattle.lapd_restart_laws.specs.RestartPremises.{IsQuick}

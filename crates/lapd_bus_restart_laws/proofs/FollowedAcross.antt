@@ -7,12 +7,12 @@ use Rattle.lapd_sides.specs.Network.{new_network}
 use Rattle.lapd_sides.specs.ShowsNetwork.{NetSide, ShowNetwork}
 use Rattle.lapd_sides.specs.ShowsUser.{UserSide, ShowUser}
 use Rattle.lapd_sides.specs.User.{User, new_user}
-use Rattle.lapd_interface.specs.Interface.{Configs, Interface}
-use Rattle.lapd_interface.specs.SideView.{SideView}
-use Rattle.lapd_interface.specs.Bus.{Bus, BusEvent, OfTerminal, OfNetwork, Join, Restart, NewTerminal, bus_step, after_events, interface_of, moves_of, moves_along}
+use Rattle.lapd_side_events.specs.Interface.{Configs, Interface}
+use Rattle.lapd_side_events.specs.SideView.{SideView}
+use Rattle.lapd_side_events.specs.Bus.{Bus, BusEvent, OfTerminal, OfNetwork, Join, Restart, NewTerminal, bus_step, after_events, interface_of, moves_of, moves_along}
 use Rattle.lapd_bus_laws.specs.Holdings.{IsOfBus}
 use Rattle.lapd_bus_laws.proofs.Followed.{one_event}
-use Rattle.lapd_interface.proofs.Indices.{set_here, set_there, same_index, equal_index, apart_index}
+use Rattle.lapd_side_events.proofs.Indices.{set_here, set_there, same_index, equal_index, apart_index}
 use Rattle.lapd_restart_laws.specs.RestartRuns.{moved}
 use Rattle.lapd_restart_laws.specs.Restarts.{Change, Moves, changes, run_across}
 use Rattle.lapd_restart_laws.proofs.AcrossAsMade.{same_without}

@@ -13,13 +13,13 @@ use Rattle.lapd_table.specs.declared.link_id.LinkId.{LinkId}
 use Rattle.lapd_sides_links.specs.Links.{Reaction}
 use Rattle.lapd_sides.specs.Network.{Network}
 use Rattle.lapd_sides.specs.User.{User, has_tei}
-use Rattle.lapd_interface.specs.Interface.{Configs, user_behaviour, network_behaviour}
-use Rattle.lapd_interface_laws.specs.Premises.{is_removal, is_assignment, GivesTeiOnce}
-use Rattle.lapd_interface.specs.SideView.{SideView, SideEvent, Take, Lose, Expire, Ask, Overhear, reaction, does}
-use Rattle.lapd_interface_laws.proofs.OwnSides.{AreOwn, user_preserves}
-use Rattle.lapd_interface_laws.proofs.TerminalOwn.{Owns}
+use Rattle.lapd_side_events.specs.Interface.{Configs, user_behaviour, network_behaviour}
+use Rattle.lapd_two_side_laws.specs.Premises.{is_removal, is_assignment, GivesTeiOnce}
+use Rattle.lapd_side_events.specs.SideView.{SideView, SideEvent, Take, Lose, Expire, Ask, Overhear, reaction, does}
+use Rattle.lapd_two_side_laws.proofs.OwnSides.{AreOwn, user_preserves}
+use Rattle.lapd_two_side_laws.proofs.TerminalOwn.{Owns}
 use Rattle.lapd_bus_laws.specs.Assignments.{Assignment, assignments, holds, is_of_tei, awaited, awaits, has_reference, is_answered, is_offer, claims}
-use Rattle.lapd_interface.specs.Bus.{Bus, BusEvent, OfTerminal, OfNetwork, Join, Restart, NewTerminal, OverhearsNothing, reached_by, left_of, on_line_of, terminal_does, network_does}
+use Rattle.lapd_side_events.specs.Bus.{Bus, BusEvent, OfTerminal, OfNetwork, Join, Restart, NewTerminal, OverhearsNothing, reached_by, left_of, on_line_of, terminal_does, network_does}
 use Rattle.lapd_bus_laws.specs.Holdings.{RequestsUnanswered}
 use Rattle.lapd_bus_laws.specs.Links.{IsNotAssigned, AssignsOthers}
 use Rattle.lapd_bus_laws.proofs.Assigns.{HasNoManagementLink, AssignsOne, AssignsAtMostOne, event_assigns}

@@ -11,17 +11,17 @@ use Rattle.lapd_table.specs.declared.link_id.LinkId.{LinkId}
 use Rattle.lapd_sides_links.specs.Links.{Links, Linked, Reaction, is_link_of, or_new, with_tei, parameters_for}
 use Rattle.lapd_sides.specs.Network.{Network}
 use Rattle.lapd_sides.specs.User.{User}
-use Rattle.lapd_interface_laws.specs.Addressed.{those_for}
-use Rattle.lapd_interface.specs.Interface.{Configs, fresh_link, from_here, network_behaviour}
-use Rattle.lapd_interface_laws.specs.Projects.{HasLink, AwaitsLink}
-use Rattle.lapd_interface.specs.SideView.{SideView, SideEvent, reaction}
-use Rattle.lapd_interface_laws.proofs.AsMade.{new_are_own, new_of_user, new_of_network}
-use Rattle.lapd_interface_laws.proofs.Managed.{neither}
-use Rattle.lapd_interface_laws.proofs.OwnSides.{network_preserves}
-use Rattle.lapd_interface_laws.proofs.TerminalOwn.{Owns}
-use Rattle.lapd_interface_laws.proofs.Timed.{new_is_timed}
+use Rattle.lapd_two_side_laws.specs.Addressed.{those_for}
+use Rattle.lapd_side_events.specs.Interface.{Configs, fresh_link, from_here, network_behaviour}
+use Rattle.lapd_two_side_laws.specs.Projects.{HasLink, AwaitsLink}
+use Rattle.lapd_side_events.specs.SideView.{SideView, SideEvent, reaction}
+use Rattle.lapd_two_side_laws.proofs.AsMade.{new_are_own, new_of_user, new_of_network}
+use Rattle.lapd_two_side_laws.proofs.Managed.{neither}
+use Rattle.lapd_two_side_laws.proofs.OwnSides.{network_preserves}
+use Rattle.lapd_two_side_laws.proofs.TerminalOwn.{Owns}
+use Rattle.lapd_two_side_laws.proofs.Timed.{new_is_timed}
 use Rattle.lapd_bus_laws.specs.Assignments.{holds, is_sent, is_taken, claims}
-use Rattle.lapd_interface.specs.Bus.{Bus, BusEvent, OfTerminal, OfNetwork, Join, Restart, NewTerminal, connected, new_bus, recorded_anew, from_now, reached_by, left_of, on_line_of, network_does, interface_of}
+use Rattle.lapd_side_events.specs.Bus.{Bus, BusEvent, OfTerminal, OfNetwork, Join, Restart, NewTerminal, connected, new_bus, recorded_anew, from_now, reached_by, left_of, on_line_of, network_does, interface_of}
 use Rattle.lapd_bus_laws.specs.Holdings.{AssignsTei, KeepsTeisApart, Assigns, IsOnlyClaimant, IsClearToNetwork}
 use Rattle.lapd_bus_laws.specs.Links.{IsAside, IsNewHere, IsSole, IsNobodyElses}
 use Rattle.lapd_bus_laws.proofs.Assigns.{AssignsOne, AssignsAtMostOne, event_assigns}

@@ -6,14 +6,14 @@ use Rattle.lapd_frame.specs.declared.Side.TheVariants as side
 use Rattle.lapd_table.specs.declared.link_id.LinkId.{LinkId}
 use Rattle.lapd_sides_links.specs.Links.{parameters_for}
 use Rattle.lapd_sides.specs.User.{User}
-use Rattle.lapd_interface_laws.specs.Addressed.{is_for, those_for}
-use Rattle.lapd_interface.specs.Interface.{Configs, Interface, from_here, network_behaviour}
-use Rattle.lapd_interface_laws.specs.Premises.{GivesTeiOnce}
-use Rattle.lapd_interface.specs.SideView.{SideView, SideEvent, Take, Lose, Expire, Ask, Overhear}
-use Rattle.lapd_interface.specs.Bus.{Bus, BusEvent, OfTerminal, OfNetwork, Join, Restart, NewTerminal, OverhearsNothing, recorded_anew, from_now, on_line_of, interface_of, overheard, by_network_of, network_moves, terminal_moves}
+use Rattle.lapd_two_side_laws.specs.Addressed.{is_for, those_for}
+use Rattle.lapd_side_events.specs.Interface.{Configs, Interface, from_here, network_behaviour}
+use Rattle.lapd_two_side_laws.specs.Premises.{GivesTeiOnce}
+use Rattle.lapd_side_events.specs.SideView.{SideView, SideEvent, Take, Lose, Expire, Ask, Overhear}
+use Rattle.lapd_side_events.specs.Bus.{Bus, BusEvent, OfTerminal, OfNetwork, Join, Restart, NewTerminal, OverhearsNothing, recorded_anew, from_now, on_line_of, interface_of, overheard, by_network_of, network_moves, terminal_moves}
 use Rattle.lapd_bus_laws.specs.Links.{IsTimelyFor, ObtainsOnce, IsSole, IsNewHere}
 use Rattle.lapd_bus_laws.proofs.Lists.{none_first}
-use Rattle.lapd_interface.proofs.Indices.{equal_index, apart_index}
+use Rattle.lapd_side_events.proofs.Indices.{equal_index, apart_index}
 use Rattle.lapd_restart_laws.specs.RestartPremises.{KeepPremises}
 use Rattle.lapd_restart_laws.specs.RestartRuns.{moved}
 use Rattle.lapd_restart_laws.specs.Restarts.{Change, changes, run_across}

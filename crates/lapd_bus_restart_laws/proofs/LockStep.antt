@@ -10,14 +10,14 @@ use Rattle.lapd_sides_links.specs.Links.{Reaction}
 use Rattle.lapd_sides.specs.Network.{Network}
 use Rattle.lapd_sides.specs.SideState.{SideState}
 use Rattle.lapd_sides.specs.User.{User}
-use Rattle.lapd_interface.specs.Bus.{OverhearsNothing}
-use Rattle.lapd_interface.specs.Interface.{Configs, Interface, Move, by_user, by_network, side_does, run, user_behaviour, network_behaviour}
-use Rattle.lapd_interface.specs.SideView.{Behaviour, SideView, SideEvent, Take, Lose, Expire, Ask, Overhear, reaction, accepted, left, does}
-use Rattle.lapd_interface_laws.specs.Addressed.{is_for, is_poll_for, is_final_for}
-use Rattle.lapd_interface_laws.specs.Establishments.{LinkRecord, LinkRecords, establishments_of, is_sent, number_each, side_recorded, run_recorded}
-use Rattle.lapd_interface_laws.specs.Premises.{AreTimely, GiveTeiOnce, GivesTeiOnce, IsMoveGivingTeiOnce, IsTimely, IsTimelyMove, IsGivenOnce, is_removal}
-use Rattle.lapd_interface_laws.specs.Primitives.{link_primitives}
-use Rattle.lapd_interface_laws.proofs.Managed.{neither}
+use Rattle.lapd_side_events.specs.Bus.{OverhearsNothing}
+use Rattle.lapd_side_events.specs.Interface.{Configs, Interface, Move, by_user, by_network, side_does, run, user_behaviour, network_behaviour}
+use Rattle.lapd_side_events.specs.SideView.{Behaviour, SideView, SideEvent, Take, Lose, Expire, Ask, Overhear, reaction, accepted, left, does}
+use Rattle.lapd_two_side_laws.specs.Addressed.{is_for, is_poll_for, is_final_for}
+use Rattle.lapd_two_side_laws.specs.Establishments.{LinkRecord, LinkRecords, establishments_of, is_sent, number_each, side_recorded, run_recorded}
+use Rattle.lapd_two_side_laws.specs.Premises.{AreTimely, GiveTeiOnce, GivesTeiOnce, IsMoveGivingTeiOnce, IsTimely, IsTimelyMove, IsGivenOnce, is_removal}
+use Rattle.lapd_two_side_laws.specs.Primitives.{link_primitives}
+use Rattle.lapd_two_side_laws.proofs.Managed.{neither}
 use Rattle.lapd_bus_laws.specs.Assignments.{Assignment, assignment_in, is_of_tei}
 use Rattle.lapd_bus_laws.specs.Links.{IsNotAssigned}
 use Rattle.lapd_bus_laws.proofs.Claims.{any_left, same_tei}

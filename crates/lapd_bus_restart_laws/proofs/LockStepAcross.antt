@@ -5,9 +5,9 @@ use Rattle.rand_pcg.specs.Lcg.{Lcg}
 use Rattle.lapd_frame.specs.declared.Side.TheVariants as side
 use Rattle.lapd_table.specs.declared.link_id.LinkId.{LinkId}
 use Rattle.lapd_sides.specs.User.{has_tei}
-use Rattle.lapd_interface.specs.Interface.{Configs, Interface, by_user}
-use Rattle.lapd_interface_laws.specs.Addressed.{is_for, those_for}
-use Rattle.lapd_interface_laws.specs.Establishments.{LinkRecords}
+use Rattle.lapd_side_events.specs.Interface.{Configs, Interface, by_user}
+use Rattle.lapd_two_side_laws.specs.Addressed.{is_for, those_for}
+use Rattle.lapd_two_side_laws.specs.Establishments.{LinkRecords}
 use Rattle.lapd_bus_laws.proofs.Lists.{none_first}
 use Rattle.lapd_bus_laws.proofs.Sole.{has_not, has_so}
 use Rattle.lapd_restart_laws.specs.Exchanges.{is_answer, is_command, is_of_kind_for}

@@ -14,13 +14,13 @@ use Rattle.lapd_sides.specs.AllTeis.{check_of_all, removal_of_all}
 use Rattle.lapd_sides.specs.Management.{manages}
 use Rattle.lapd_sides.specs.Network.{Network, assigner_acts, group_frame, network_rules}
 use Rattle.lapd_sides.specs.SideState.{with_stopped}
-use Rattle.lapd_interface.specs.Interface.{network_behaviour}
-use Rattle.lapd_interface.specs.SideView.{SideView, SideEvent, reaction}
-use Rattle.lapd_interface_laws.specs.Addressed.{is_for, those_for}
-use Rattle.lapd_interface_laws.proofs.LinkParts.{absent_acts, expiry_passes, none_pass, spelled_is_for}
-use Rattle.lapd_interface_laws.proofs.Managed.{message_is_other, not_of_group}
-use Rattle.lapd_interface_laws.proofs.Reactions.{AnyInput, AnyRequest, HoldsOfEvents, HoldsOfLinks, Law, each_event, each_request, reacts}
-use Rattle.lapd_interface_laws.proofs.Requests.{network_asked}
+use Rattle.lapd_side_events.specs.Interface.{network_behaviour}
+use Rattle.lapd_side_events.specs.SideView.{SideView, SideEvent, reaction}
+use Rattle.lapd_two_side_laws.specs.Addressed.{is_for, those_for}
+use Rattle.lapd_two_side_laws.proofs.LinkParts.{absent_acts, expiry_passes, none_pass, spelled_is_for}
+use Rattle.lapd_two_side_laws.proofs.Managed.{message_is_other, not_of_group}
+use Rattle.lapd_two_side_laws.proofs.Reactions.{AnyInput, AnyRequest, HoldsOfEvents, HoldsOfLinks, Law, each_event, each_request, reacts}
+use Rattle.lapd_two_side_laws.proofs.Requests.{network_asked}
 
 module _ (config : Config) (id : LinkId) (low : id.tei < 127) where
   abbrev SendsNone : Law AssignerState

@@ -17,10 +17,10 @@ use Rattle.lapd_sides.specs.SideState.{link_of, expires, takes}
 use Rattle.lapd_sides.specs.Network.{assigner_acts, network_requested}
 use Rattle.lapd_sides.specs.User.{terminal_acts, user_requested}
 use Rattle.lapd_sides.specs.Worked as sides
-use Rattle.lapd_interface.specs.Bus.{Bus, new_bus, bus_step}
-use Rattle.lapd_interface.specs.SideView.{does}
-use Rattle.lapd_interface_laws.specs.Primitives.{link_primitives, AreExpectedOfLink}
-use Rattle.lapd_interface_laws.specs.Schedule.{configs, call}
+use Rattle.lapd_side_events.specs.Bus.{Bus, new_bus, bus_step}
+use Rattle.lapd_side_events.specs.SideView.{does}
+use Rattle.lapd_two_side_laws.specs.Primitives.{link_primitives, AreExpectedOfLink}
+use Rattle.lapd_two_side_laws.specs.Schedule.{configs, call}
 use Rattle.lapd_bus_laws.specs.Holdings.{KeepsTeisApart, Assigns, IsOnlyClaimant, IsClearToNetwork}
 use Rattle.lapd_bus_laws.specs.Links.{Throughout}
 use Rattle.lapd_bus_laws.specs.Runs.{assigns_first, waiting_terminal}

@@ -18,11 +18,11 @@ use Rattle.lapd_sides_links.specs.declared.side_fault.SideKind.{SideKind}
 use Rattle.lapd_sides.specs.Management.{is_management, is_ui}
 use Rattle.lapd_sides.specs.SideState.{among_links, data_received, discards, link_of, message_received, or_discarded, received, takes, unit_from_group}
 use Rattle.lapd_sides.specs.User.{User, user_rules}
-use Rattle.lapd_interface.specs.Interface.{Configs}
-use Rattle.lapd_interface_laws.specs.Addressed.{is_for, is_named}
-use Rattle.lapd_interface_laws.proofs.LinkParts.{absent_refuses}
-use Rattle.lapd_interface_laws.proofs.Managed.{and_not}
-use Rattle.lapd_interface_laws.proofs.Users.{user_meant}
+use Rattle.lapd_side_events.specs.Interface.{Configs}
+use Rattle.lapd_two_side_laws.specs.Addressed.{is_for, is_named}
+use Rattle.lapd_two_side_laws.proofs.LinkParts.{absent_refuses}
+use Rattle.lapd_two_side_laws.proofs.Managed.{and_not}
+use Rattle.lapd_two_side_laws.proofs.Users.{user_meant}
 
 -- ---- Octets of the link are discarded as empty ones are.
 

@@ -21,11 +21,11 @@ use Rattle.lapd_sides.specs.User.{User, terminal_acts, user_requested}
 use Rattle.lapd_link_definition.specs.declared.out.Letter.TheVariants as letter
 use Rattle.lapd_pair_laws.specs.Schedule.{two_messages}
 use Rattle.lapd_sides_links.specs.declared.primitive.What.TheVariants as what
-use Rattle.lapd_interface_laws.specs.Primitives.{link_primitives, given_to, known_of, AreExpectedOfLink}
-use Rattle.lapd_interface_laws.specs.Schedule.{configs, IsMessage}
-use Rattle.lapd_interface.specs.SideView.{SideView, does}
-use Rattle.lapd_interface_laws.proofs.Computed.{Fits, holding, with_both, second_for_first}
-use Rattle.lapd_interface.specs.Bus.{Bus, from_now}
+use Rattle.lapd_two_side_laws.specs.Primitives.{link_primitives, given_to, known_of, AreExpectedOfLink}
+use Rattle.lapd_two_side_laws.specs.Schedule.{configs, IsMessage}
+use Rattle.lapd_side_events.specs.SideView.{SideView, does}
+use Rattle.lapd_two_side_laws.proofs.Computed.{Fits, holding, with_both, second_for_first}
+use Rattle.lapd_side_events.specs.Bus.{Bus, from_now}
 use Rattle.lapd_bus_laws.specs.HoldingRuns.{IsReceivedByNetwork}
 use Rattle.lapd_bus_laws.specs.Holdings.{IsOfBus, RequestsByItsOwn, IsOnlyClaimant}
 use Rattle.lapd_bus_laws.specs.Links.{IsTimelyFor, AssignsOthers}

@@ -1,12 +1,12 @@
--- A bus whose sides also restart. The events are those of `lapd_interface`. A side that restarts
+-- A bus whose sides also restart. The events are those of `lapd_side_events`. A side that restarts
 -- counts on from the one before it, as in `lapd_restart_laws`.
 use Rattle.std.specs.Prelude.{◌≡◌, ℕ, ◌==◌, Bool, true, false, List, [], ◌∷◌, ◌++◌, slice_get, Option, Some, None}
 use Rattle.lapd_sides.specs.Network.{new_network}
 use Rattle.lapd_sides.specs.ShowsUser.{UserSide, ShowUser}
 use Rattle.lapd_sides.specs.User.{User, new_user}
-use Rattle.lapd_interface.specs.Interface.{Configs}
-use Rattle.lapd_interface.specs.SideView.{SideView}
-use Rattle.lapd_interface.specs.Bus.{Bus, BusEvent, Join, Restart, NewTerminal, with_terminal, bus_step, interface_of, moves_of}
+use Rattle.lapd_side_events.specs.Interface.{Configs}
+use Rattle.lapd_side_events.specs.SideView.{SideView}
+use Rattle.lapd_side_events.specs.Bus.{Bus, BusEvent, Join, Restart, NewTerminal, with_terminal, bus_step, interface_of, moves_of}
 use Rattle.lapd_restart_laws.specs.Restarts.{Change, NetworkRestarts, UserRestarts, network_after, user_after, losses, run_across}
 use Rattle.lapd_restart_laws.specs.RestartRuns.{moved}
 
@@ -33,7 +33,7 @@ network_restarts c known b = record b {
       ++ losses b.network.served.links (new_network c.network known).served.links;
 }
 
--- An event of a bus. One that is no restart is the same as in `lapd_interface`.
+-- An event of a bus. One that is no restart is the same as in `lapd_side_events`.
 abbrev pub step_across : Configs → BusEvent → Bus → Bus
 step_across c (Join i new) b = terminal_restarts c i new (slice_get b.terminals i) b
 step_across c (Restart known) b = network_restarts c known b

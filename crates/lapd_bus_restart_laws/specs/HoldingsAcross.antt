@@ -2,8 +2,8 @@
 -- TEI, and lasts until the network assigns it again.
 use Rattle.std.specs.Prelude.{◌≡◌, ℕ, List, Some}
 use Rattle.lapd_table.specs.declared.link_id.LinkId.{LinkId}
-use Rattle.lapd_interface.specs.Interface.{Configs}
-use Rattle.lapd_interface.specs.Bus.{Bus, BusEvent, Join}
+use Rattle.lapd_side_events.specs.Interface.{Configs}
+use Rattle.lapd_side_events.specs.Bus.{Bus, BusEvent, Join}
 use Rattle.lapd_bus_laws.specs.Holdings.{IsOfBus, KeepsTeisApart, IsReached, RequestsUnanswered}
 use Rattle.lapd_bus_laws.specs.Links.{IsTimelyFor, AssignsOthers}
 use Rattle.lapd_bus_restart_laws.specs.BusAcross.{after_across, ThroughoutAcross}

@@ -4,10 +4,10 @@ use Rattle.lapd_frame.specs.declared.Side.TheVariants as side
 use Rattle.lapd_table.specs.declared.link_id.LinkId.{LinkId}
 use Rattle.lapd_sides.specs.Network.{new_network}
 use Rattle.lapd_sides.specs.User.{User, new_user}
-use Rattle.lapd_interface.specs.Interface.{Configs, network_behaviour}
-use Rattle.lapd_interface_laws.specs.Premises.{GivesTeiOnce}
-use Rattle.lapd_interface.specs.SideView.{SideView}
-use Rattle.lapd_interface.specs.Bus.{Bus, BusEvent, OfNetwork, Join, Restart, on_line_of}
+use Rattle.lapd_side_events.specs.Interface.{Configs, network_behaviour}
+use Rattle.lapd_two_side_laws.specs.Premises.{GivesTeiOnce}
+use Rattle.lapd_side_events.specs.SideView.{SideView}
+use Rattle.lapd_side_events.specs.Bus.{Bus, BusEvent, OfNetwork, Join, Restart, on_line_of}
 use Rattle.lapd_bus_laws.specs.Holdings.{IsOfBus}
 use Rattle.lapd_bus_laws.specs.Links.{IsTimelyFor, ObtainsOnce}
 use Rattle.lapd_restart_laws.specs.RestartPremises.{IsQuick}

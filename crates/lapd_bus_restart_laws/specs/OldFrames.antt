@@ -6,10 +6,10 @@ use Rattle.lapd_table.specs.declared.link_id.LinkId.{LinkId}
 use Rattle.lapd_sides.specs.declared.request.Request.TheVariants as request
 use Rattle.lapd_sides.specs.User.{User}
 use Rattle.lapd_sides.specs.Worked as sides
-use Rattle.lapd_interface.specs.Bus.{Bus, BusEvent, OfTerminal, OfNetwork, Join, new_bus, from_now, bus_step, after_events}
-use Rattle.lapd_interface.specs.SideView.{SideView, Take, Ask}
-use Rattle.lapd_interface_laws.specs.Addressed.{those_for}
-use Rattle.lapd_interface_laws.specs.Schedule.{configs, call}
+use Rattle.lapd_side_events.specs.Bus.{Bus, BusEvent, OfTerminal, OfNetwork, Join, new_bus, from_now, bus_step, after_events}
+use Rattle.lapd_side_events.specs.SideView.{SideView, Take, Ask}
+use Rattle.lapd_two_side_laws.specs.Addressed.{those_for}
+use Rattle.lapd_two_side_laws.specs.Schedule.{configs, call}
 use Rattle.lapd_bus_laws.specs.Runs.{assigns_first, waiting_terminal, with_fixed_tei}
 
 -- If the terminal at this index restarts with the link's TEI as its fixed one, and did not have the

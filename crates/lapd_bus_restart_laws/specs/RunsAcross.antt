@@ -5,9 +5,9 @@ use Rattle.std.specs.declared.alloc.Global.{Global}
 use Rattle.lapd_table.specs.declared.link_id.LinkId.{LinkId}
 use Rattle.lapd_sides.specs.declared.request.Request.TheVariants as request
 use Rattle.lapd_sides.specs.Worked as sides
-use Rattle.lapd_interface_laws.specs.Schedule.{configs}
-use Rattle.lapd_interface.specs.SideView.{Take, Lose, Ask}
-use Rattle.lapd_interface.specs.Bus.{Bus, BusEvent, OfTerminal, OfNetwork, Join, Restart, new_bus, from_now}
+use Rattle.lapd_two_side_laws.specs.Schedule.{configs}
+use Rattle.lapd_side_events.specs.SideView.{Take, Lose, Ask}
+use Rattle.lapd_side_events.specs.Bus.{Bus, BusEvent, OfTerminal, OfNetwork, Join, Restart, new_bus, from_now}
 use Rattle.lapd_bus_laws.specs.Holdings.{IsOfBus, RequestsByItsOwn}
 use Rattle.lapd_bus_laws.specs.Links.{IsTimelyFor, AssignsOthers}
 use Rattle.lapd_bus_laws.specs.Runs.{other_random, with_fixed_tei, fixed_call}

@@ -4,10 +4,10 @@ ghost use Rattle.std.specs.Prelude.{◌≡◌, ◌<◌, ◌≤◌, ℕ, List, sl
 ghost use Rattle.lapd_table.specs.declared.link_id.LinkId.{LinkId};
 ghost use Rattle.lapd_sides.specs.User.{User};
 ghost use Rattle.lapd_sides_links.specs.Links.{parameters_for};
-ghost use Rattle.lapd_interface.specs.Interface.{Configs, from_here};
-ghost use Rattle.lapd_interface.specs.SideView.{SideView};
+ghost use Rattle.lapd_side_events.specs.Interface.{Configs, from_here};
+ghost use Rattle.lapd_side_events.specs.SideView.{SideView};
 ghost use Rattle.lapd_bus_laws.specs.Assignments.{claims, IsSingle};
-ghost use Rattle.lapd_interface.specs.Bus.{Bus, BusEvent, NewTerminal, new_bus, from_now, interface_of};
+ghost use Rattle.lapd_side_events.specs.Bus.{Bus, BusEvent, NewTerminal, new_bus, from_now, interface_of};
 ghost use Rattle.lapd_bus_laws.specs.Holdings.{KeepsTeisApart, Assigns, IsOnlyClaimant, IsClear, IsClearToNetwork};
 ghost use Rattle.lapd_bus_laws.specs.Links.{IsNobodyElses};
 ghost use Rattle.lapd_restart_laws.specs.SafeAcross.{IsSafeAcross};

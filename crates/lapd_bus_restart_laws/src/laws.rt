@@ -8,9 +8,9 @@ ghost use Rattle.lapd_sides.specs.Network.{new_network};
 ghost use Rattle.lapd_sides.specs.ShowsNetwork.{NetSide, ShowNetwork};
 ghost use Rattle.lapd_sides.specs.ShowsUser.{UserSide, ShowUser};
 ghost use Rattle.lapd_sides.specs.User.{User, new_user};
-ghost use Rattle.lapd_interface.specs.Interface.{Configs, from_here};
-ghost use Rattle.lapd_interface.specs.SideView.{SideView};
-ghost use Rattle.lapd_interface.specs.Bus.{Bus, BusEvent, Restart, NewTerminal, interface_of, moves_along, from_now, after_events};
+ghost use Rattle.lapd_side_events.specs.Interface.{Configs, from_here};
+ghost use Rattle.lapd_side_events.specs.SideView.{SideView};
+ghost use Rattle.lapd_side_events.specs.Bus.{Bus, BusEvent, Restart, NewTerminal, interface_of, moves_along, from_now, after_events};
 ghost use Rattle.lapd_bus_laws.specs.Holdings.{IsOfBus};
 ghost use Rattle.lapd_bus_laws.specs.Links.{IsSole, IsNewHere, IsNobodyElses};
 ghost use Rattle.lapd_restart_laws.specs.RestartRuns.{moved};
@@ -25,7 +25,7 @@ ghost use Rattle.lapd_bus_restart_laws.specs.LinksAcross.{KeepsLink};
 ///   lead to. A restart of the network is one of the network side, and a new terminal at this index
 ///   is a restart of the user side. A new terminal at another index is nothing.
 /// - `without`: if no side restarts, the events lead to the bus that they lead to in
-///   `lapd_interface`, and the changes are the moves that they are there.
+///   `lapd_side_events`, and the changes are the moves that they are there.
 pub fn each_run_across_restarts_is_one_of_two_sides()
     ensures runs { (c : Configs) (i : ℕ) (events : List BusEvent) (t : SideView User) (b : Bus)
         → AllByRecursion IsOfBus events → slice_get b.terminals i ≡ Some t
@@ -41,7 +41,7 @@ pub fn each_run_across_restarts_is_one_of_two_sides()
 ///
 /// So a program that drops a side of a bus and makes another one by [`NetSide::new`],
 /// [`UserSide::new`] or [`UserSide::with_seed`] restarts it there. What the calls of the new side
-/// are, `calls_are_bus_events` of `lapd_interface` says.
+/// are, `calls_are_bus_events` of `lapd_side_events` says.
 ///
 /// [`NetSide::new`]: lapd_sides::NetSide::new
 /// [`UserSide::new`]: lapd_sides::UserSide::new

@@ -5,12 +5,12 @@ ghost use Rattle.std.specs.Prelude.{◌≡◌, ◌<◌, ◌≤◌, ℕ, List, sl
 ghost use Rattle.lapd_table.specs.declared.link_id.LinkId.{LinkId};
 ghost use Rattle.lapd_sides.specs.User.{User};
 ghost use Rattle.lapd_sides_links.specs.Links.{parameters_for};
-ghost use Rattle.lapd_interface.specs.Interface.{Configs, from_here};
-ghost use Rattle.lapd_interface.specs.SideView.{SideView};
-ghost use Rattle.lapd_interface.specs.Bus.{Bus, BusEvent, bus_step, from_now, interface_of, moves_along};
-ghost use Rattle.lapd_interface_laws.specs.Primitives.{link_primitives, AreExpectedOfLink};
-ghost use Rattle.lapd_interface_laws.specs.Projects.{IsRight};
-ghost use Rattle.lapd_interface_laws.specs.Schedule.{configs, call};
+ghost use Rattle.lapd_side_events.specs.Interface.{Configs, from_here};
+ghost use Rattle.lapd_side_events.specs.SideView.{SideView};
+ghost use Rattle.lapd_side_events.specs.Bus.{Bus, BusEvent, bus_step, from_now, interface_of, moves_along};
+ghost use Rattle.lapd_two_side_laws.specs.Primitives.{link_primitives, AreExpectedOfLink};
+ghost use Rattle.lapd_two_side_laws.specs.Projects.{IsRight};
+ghost use Rattle.lapd_two_side_laws.specs.Schedule.{configs, call};
 ghost use Rattle.lapd_bus_laws.specs.Holdings.{KeepsTeisApart, IsReached, Assigns, IsOnlyClaimant, IsClearToNetwork, KeepsHolding};
 ghost use Rattle.lapd_bus_laws.specs.Links.{Throughout};
 ghost use Rattle.lapd_bus_laws.specs.Runs.{assigns_first};
@@ -31,7 +31,7 @@ ghost use Rattle.lapd_bus_restart_laws.specs.OldFrames.{RestartsClear, with_old_
 ///
 /// - `right`: messages are received in order and once each, and none is skipped within an
 ///   establishment. Each message that counts as acknowledged was received. No error but F, G, H and
-///   I is reported (`IsRight` of `lapd_interface_laws`). Primitives and messages count from the
+///   I is reported (`IsRight` of `lapd_two_side_laws`). Primitives and messages count from the
 ///   assignment on.
 ///
 /// `IsSafeAt` also says that the octets of the link on the line are the frames of a world of two

@@ -3,6 +3,7 @@
 use crate::ending::Stop;
 use crate::live::do_live;
 use lapd_cli_answer::answer;
+use lapd_cli_bus::{BusLayout, bus_links};
 use lapd_cli_console::Script;
 use lapd_cli_decode::{
     Drawing, Filter, Follow, FrameStyle, FrameTime, JoinedDumps, Layout, LineForm, LinesStyle,
@@ -15,7 +16,6 @@ use lapd_cli_options::{
     PrintedTime, Side,
 };
 use lapd_cli_script::ScriptFault;
-use lapd_cli_side_bus::{BusLayout, bus_links};
 use lapd_cli_side_commands::{Config, FromRead, FromWrite, Port, SideRun, net, user};
 use lapd_cli_side_lines::LineStyle;
 use std::alloc::{AllocError, Global};

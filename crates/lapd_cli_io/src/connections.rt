@@ -15,10 +15,10 @@ use crate::next_connections::{INCOMING, Incoming, NextConnections};
 use crate::notes::Notes;
 use crate::peers::{LostPeer, Peers};
 use crate::shared_bus::{BusSetup, ForeignUse, SharedBus};
-use lapd_cli_line::{
+use lapd_cli_script::port_reason;
+use lapd_cli_wire::{
     Impairment, Incident, Lines, MOST_RECEIVED, Outside, Sending, Woken, is_reached,
 };
-use lapd_cli_script::port_reason;
 use lapd_frame::Side;
 use lapd_port::PortFault;
 use lapd_table::{LinkId, LinkTable, Sapi, Tei};

@@ -4,7 +4,7 @@ ghost use Rattle.std.specs.Prelude.{◌≡◌, ◌≤◌, length, IfOk, IfSome};
 ghost use Rattle.lapd_port.specs.SocketText.{IsFrameLength};
 
 use crate::lost::Lost;
-use lapd_cli_line::MOST_RECEIVED;
+use lapd_cli_wire::MOST_RECEIVED;
 use lapd_port::{MOST_OCTETS, PortFault};
 use mio::net::TcpStream;
 use mio::{Interest, Poll, Token};

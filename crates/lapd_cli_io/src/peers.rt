@@ -5,7 +5,7 @@ ghost use Rattle.lapd_port.specs.SocketText.{IsFrameLength};
 
 use crate::frame_stream::FrameStream;
 use crate::lost::Lost;
-use lapd_cli_line::MOST_RECEIVED;
+use lapd_cli_wire::MOST_RECEIVED;
 use mio::{Poll, Token};
 use slab::Slab;
 use std::io::{self, ErrorKind};

@@ -5,11 +5,11 @@ use Rattle.lapd_cli_live.specs.declared.service.EndReason.TheVariants as end_rea
 use Rattle.lapd_cli_live.specs.declared.service.Service.{Service}
 use Rattle.lapd_cli_live.specs.declared.service.Until.{Until}
 use Rattle.lapd_cli_live.specs.declared.service.Until.TheVariants as until
-use Rattle.lapd_cli_line.specs.declared.outside.Lines.{Lines}
-use Rattle.lapd_cli_line.specs.declared.outside.Lines.TheVariants as lines
-use Rattle.lapd_cli_line.specs.declared.outside.Woken.{Woken}
-use Rattle.lapd_cli_line.specs.declared.outside.Woken.TheVariants as woken
-use Rattle.lapd_cli_line.specs.IoEvents.{Adds, Arrives, IoEvent, FindsNone, Reads, Sends, Waits, is_reached}
+use Rattle.lapd_cli_wire.specs.declared.outside.Lines.{Lines}
+use Rattle.lapd_cli_wire.specs.declared.outside.Lines.TheVariants as lines
+use Rattle.lapd_cli_wire.specs.declared.outside.Woken.{Woken}
+use Rattle.lapd_cli_wire.specs.declared.outside.Woken.TheVariants as woken
+use Rattle.lapd_cli_wire.specs.IoEvents.{Adds, Arrives, IoEvent, FindsNone, Reads, Sends, Waits, is_reached}
 use Rattle.lapd_cli_live.specs.Log.{LiveState, io_events_in, is_matched, moment_of}
 use Rattle.lapd_cli_live.specs.Steps.{CatchesUp, IsMatched, IsOver, IsServed, LooksInVain, Proceeds, ProceedsOnce, Receives, Step, TakesMost, end_by_wait, ended_by}
 use Rattle.lapd_cli_live.specs.PromptLine.{Arrival, EndsInTime, ExpiresInTime, HasAllThatArrived, IsPrompt, IsPromptAfter, StartsWithEarlier, frames_received, one_left, three_at_once, three_received}

@@ -13,16 +13,16 @@ use Rattle.lapd_sides_links.specs.declared.primitive.Primitive.{Primitive}
 use Rattle.lapd_sides_links.specs.Effects.{Effects}
 use Rattle.lapd_sides.specs.declared.either_side.EitherSide.{EitherSide}
 use Rattle.lapd_sides.specs.Either.{side_of}
-use Rattle.lapd_cli_line.specs.declared.impairment.Impairment.{Impairment}
-use Rattle.lapd_cli_line.specs.declared.outside.Sending.{Sending}
-use Rattle.lapd_cli_line.specs.declared.outside.Sending.TheVariants.{Sent as WasSent, Lost as WasLost}
+use Rattle.lapd_cli_wire.specs.declared.impairment.Impairment.{Impairment}
+use Rattle.lapd_cli_wire.specs.declared.outside.Sending.{Sending}
+use Rattle.lapd_cli_wire.specs.declared.outside.Sending.TheVariants.{Sent as WasSent, Lost as WasLost}
 use Rattle.lapd_cli_live.specs.declared.style.Style.{Style}
 use Rattle.lapd_cli_live.specs.declared.printer.Printer.{Printer}
-use Rattle.lapd_cli_line.specs.IoEvents.{Adds, IoEvent, Sends, SendsFront, all_sent}
+use Rattle.lapd_cli_wire.specs.IoEvents.{Adds, IoEvent, Sends, SendsFront, all_sent}
 use Rattle.lapd_cli_live.specs.Entries.{Entry, Outgoing, Prints, Shown, Delivered, counted, entries_text, entry_kept, entry_text, is_awaited, moment_after, octets_of, outgoing_entry, sent_entry}
 use Rattle.lapd_cli_live.specs.Printers.{PrintsOn, SendsAll, shown}
 use Rattle.lapd_cli_live.specs.Log.{Around, Chain, Happen, IsCarriedOut, LiveEvent, LiveState, Shows, io_events_in, entries_in, sending_events, primitive_event}
-use Rattle.lapd_cli_line.proofs.IoEvents.{adds_both, adds_none}
+use Rattle.lapd_cli_wire.proofs.IoEvents.{adds_both, adds_none}
 
 -- ---- Events.
 

@@ -1,7 +1,7 @@
 -- The events while a side runs.
 use Rattle.std.proofs.Common.{◌≡◌, ℕ, List, [], ◌∷◌, ◌++◌, Option, None, Some, sym, subst, ◌∙◌, inl, inr}
 use Rattle.std.specs.Prelude.{Bool, ◌⊎◌}
-use Rattle.lapd_cli_line.specs.declared.outside.Lines.{Lines}
+use Rattle.lapd_cli_wire.specs.declared.outside.Lines.{Lines}
 use Rattle.lapd_cli_live.specs.declared.service.Service.{Service}
 use Rattle.lapd_cli_live.specs.declared.service.Until.{Until}
 use Rattle.lapd_cli_live.specs.declared.service.EndReason.{EndReason}

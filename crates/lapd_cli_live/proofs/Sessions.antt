@@ -17,8 +17,8 @@ use Rattle.lapd_cli_live.specs.declared.input.LiveStop.{LiveStop}
 use Rattle.lapd_cli_live.specs.declared.input.LiveStop.TheVariants.{Script, Unmet}
 use Rattle.lapd_cli_live.specs.declared.obeyed.Obeyed.{Obeyed}
 use Rattle.lapd_cli_live.specs.declared.obeyed.Obeyed.TheVariants as obeyed
-use Rattle.lapd_cli_line.specs.declared.outside.Lines.{Lines}
-use Rattle.lapd_cli_line.specs.declared.outside.Lines.TheVariants.{Ignored}
+use Rattle.lapd_cli_wire.specs.declared.outside.Lines.{Lines}
+use Rattle.lapd_cli_wire.specs.declared.outside.Lines.TheVariants.{Ignored}
 use Rattle.lapd_cli_live.specs.declared.service.EndReason.{EndReason}
 use Rattle.lapd_cli_live.specs.declared.service.EndReason.TheVariants as end_reason
 use Rattle.lapd_cli_live.specs.Log.{Chain, HappenBeside, LiveState}

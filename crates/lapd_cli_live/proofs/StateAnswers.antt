@@ -8,18 +8,18 @@ use Rattle.lapd_table.specs.declared.link_id.LinkId.{LinkId}
 use Rattle.lapd_sides_links.specs.declared.side_fault.SideKind.TheVariants.{NoLink}
 use Rattle.lapd_sides.specs.declared.either_side.EitherSide.{EitherSide}
 use Rattle.lapd_sides.specs.Either.{side_of}
-use Rattle.lapd_cli_line.specs.declared.outside.Lines.{Lines}
+use Rattle.lapd_cli_wire.specs.declared.outside.Lines.{Lines}
 use Rattle.lapd_cli_live.specs.RecentOutput.{has_line}
 use Rattle.lapd_cli_live.specs.WaitingLines.{Expects, behind_line}
 use Rattle.lapd_cli_live.specs.LineDone.{FindsLine, LooksOut, sought}
 use Rattle.lapd_cli_live.specs.declared.printer.Printer.{Printer}
-use Rattle.lapd_cli_line.specs.IoEvents.{IoEvent}
-use Rattle.lapd_cli_line.specs.declared.impairment.Impairment.{Impairment}
+use Rattle.lapd_cli_wire.specs.IoEvents.{IoEvent}
+use Rattle.lapd_cli_wire.specs.declared.impairment.Impairment.{Impairment}
 use Rattle.lapd_cli_live.specs.Entries.{Worded, refused, stats_entries}
 use Rattle.lapd_cli_live.specs.Printers.{PrintsOn}
 use Rattle.lapd_cli_live.specs.Log.{HappenBeside, LiveState, Shows}
 use Rattle.lapd_cli_live.specs.StateLines.{PutsLink, PutsNoLink, PutsState, RefusesLink, StateEach, line_unless_empty, management_events, shown_event}
-use Rattle.lapd_cli_line.proofs.IoEvents.{adds_none}
+use Rattle.lapd_cli_wire.proofs.IoEvents.{adds_none}
 use Rattle.lapd_cli_live.proofs.Log.{live}
 
 pub puts_link : (id : LinkId) (matched : Bool) (a b : LiveState) → matched ≡ true

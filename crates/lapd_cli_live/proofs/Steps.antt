@@ -16,14 +16,14 @@ use Rattle.lapd_cli_live.specs.declared.service.Until.{Until}
 use Rattle.lapd_cli_live.specs.declared.service.Until.TheVariants as until
 use Rattle.lapd_cli_live.specs.declared.service.EndReason.{EndReason}
 use Rattle.lapd_cli_live.specs.declared.service.EndReason.TheVariants as end_reason
-use Rattle.lapd_cli_line.specs.declared.outside.Woken.{Woken}
-use Rattle.lapd_cli_line.specs.IoEvents.{Adds, Arrives, IoEvent, Waits}
-use Rattle.lapd_cli_line.specs.declared.impairment.Impairment.{Impairment}
+use Rattle.lapd_cli_wire.specs.declared.outside.Woken.{Woken}
+use Rattle.lapd_cli_wire.specs.IoEvents.{Adds, Arrives, IoEvent, Waits}
+use Rattle.lapd_cli_wire.specs.declared.impairment.Impairment.{Impairment}
 use Rattle.lapd_cli_live.specs.Entries.{Entry, Prints, Received, moment_after}
 use Rattle.lapd_cli_live.specs.Printers.{PrintsOn, shown}
 use Rattle.lapd_cli_live.specs.Log.{Around, CarriesOut, CarriesOutAll, Chain, Happen, HappenBeside, IsCarriedOut, LiveEvent, LiveState, ReadsClock, Shows, is_matched, moment_of, read_at}
 use Rattle.lapd_cli_live.specs.Steps.{CatchesUp, DoesDue, EndsByFrame, Continues, IsReached, HasReceived, IsExecuted, IsServed, Looks, LooksInVain, Receives, Step, TakesAndContinues, TakesAt, TakesFrame, Proceeds, ended_by, refusal_events}
-use Rattle.lapd_cli_line.proofs.IoEvents.{adds_none, adds_same}
+use Rattle.lapd_cli_wire.proofs.IoEvents.{adds_none, adds_same}
 use Rattle.lapd_cli_live.proofs.Log.{chain_more, happen_both, happen_none, live, prints_none}
 
 pub true_is_not_false : true ≡ false → ⊥

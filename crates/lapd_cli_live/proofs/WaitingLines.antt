@@ -6,8 +6,8 @@ use Rattle.lapd_sides.specs.declared.either_side.EitherSide.{EitherSide}
 use Rattle.lapd_cli_live.specs.declared.printer.Printer.{Printer}
 use Rattle.lapd_cli_live.specs.declared.service.EndReason.{EndReason}
 use Rattle.lapd_cli_live.specs.declared.service.EndReason.TheVariants as end_reason
-use Rattle.lapd_cli_line.specs.IoEvents.{IoEvent}
-use Rattle.lapd_cli_line.specs.declared.impairment.Impairment.{Impairment}
+use Rattle.lapd_cli_wire.specs.IoEvents.{IoEvent}
+use Rattle.lapd_cli_wire.specs.declared.impairment.Impairment.{Impairment}
 use Rattle.lapd_cli_live.specs.Entries.{Shown}
 use Rattle.lapd_cli_live.specs.Printers.{Awaits, shown}
 use Rattle.lapd_cli_live.specs.Log.{HappenBeside, LiveState}

@@ -18,8 +18,8 @@ use Rattle.lapd_cli_live_text.specs.AwaitedLine.{begins_as}
 use Rattle.lapd_cli_live_text.specs.LineObjects.{words_object}
 use Rattle.lapd_cli_live_text.specs.declared.stats.Stats.{Stats}
 use Rattle.lapd_cli_live_text.specs.Stats.{received_counted, received_words, reports_words, sent_counted, sent_words, primitive_counted}
-use Rattle.lapd_cli_line.specs.declared.outside.Sending.{Sending}
-use Rattle.lapd_cli_line.specs.declared.outside.Sending.TheVariants as sending
+use Rattle.lapd_cli_wire.specs.declared.outside.Sending.{Sending}
+use Rattle.lapd_cli_wire.specs.declared.outside.Sending.TheVariants as sending
 use Rattle.lapd_cli_live.specs.declared.style.Style.{Style}
 use Rattle.lapd_cli_live.specs.RecentOutput.{with_line}
 

@@ -11,8 +11,8 @@ use Rattle.lapd_sides.specs.ShowsUser.{ShowUser}
 use Rattle.lapd_cli_live_text.specs.LiveRequests.{live_request_of, live_request_of_line}
 use Rattle.lapd_cli_live_text.specs.AwaitedLine.{awaited_line}
 use Rattle.lapd_cli_live_text.specs.AwaitedText.{shown_words}
-use Rattle.lapd_cli_line.specs.declared.impairment.Impairment.{Impairment}
-use Rattle.lapd_cli_line.specs.declared.outside.Lines.{Lines}
+use Rattle.lapd_cli_wire.specs.declared.impairment.Impairment.{Impairment}
+use Rattle.lapd_cli_wire.specs.declared.outside.Lines.{Lines}
 use Rattle.lapd_cli_live.specs.Entries.{Named}
 use Rattle.lapd_cli_live.specs.Log.{HappenBeside, LiveState, Shows}
 use Rattle.lapd_cli_live.specs.Steps.{IsAsked}

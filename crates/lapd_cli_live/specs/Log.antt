@@ -7,8 +7,8 @@ use Rattle.lapd_sides.specs.declared.either_side.EitherSide.{EitherSide}
 use Rattle.lapd_sides.specs.Either.{side_of}
 use Rattle.lapd_cli_live.specs.declared.style.Style.{Style}
 use Rattle.lapd_cli_live.specs.declared.live_side.LiveSide.{LiveSide}
-use Rattle.lapd_cli_line.specs.declared.impairment.Impairment.{Impairment}
-use Rattle.lapd_cli_line.specs.IoEvents.{Adds, IoEvent, Reads, Sends}
+use Rattle.lapd_cli_wire.specs.declared.impairment.Impairment.{Impairment}
+use Rattle.lapd_cli_wire.specs.IoEvents.{Adds, IoEvent, Reads, Sends}
 use Rattle.lapd_cli_live.specs.Entries.{Dated, Entry, Outgoing, Prints, Shown, Delivered, octets_of, outgoing_entry}
 use Rattle.lapd_cli_live.specs.Printers.{shown}
 

@@ -3,8 +3,8 @@ use Rattle.std.specs.Prelude.{◌≡◌, ℕ, ◌||◌, false, List, ◌++◌, m
 use Rattle.std.specs.Io.KnownBytes.{append_known}
 use Rattle.lapd_frame.specs.declared.Side.{Side}
 use Rattle.lapd_cli_live.specs.declared.printer.Printer.{Printer}
-use Rattle.lapd_cli_line.specs.IoEvents.{Adds, IoEvent, all_sent}
-use Rattle.lapd_cli_line.specs.declared.impairment.Impairment.{Impairment}
+use Rattle.lapd_cli_wire.specs.IoEvents.{Adds, IoEvent, all_sent}
+use Rattle.lapd_cli_wire.specs.declared.impairment.Impairment.{Impairment}
 use Rattle.lapd_cli_live.specs.Entries.{Entry, Outgoing, Prints, Shown, begins_so, line_kept, octets_of, outgoing_entry, printed_line}
 use Rattle.lapd_cli_live.specs.RecentOutput.{recent_lines}
 

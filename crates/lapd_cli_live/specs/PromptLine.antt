@@ -2,8 +2,8 @@
 use Rattle.std.specs.Prelude.{◌≡◌, ◌⊎◌, ℕ, nat_lt, true, List, [], ◌∷◌, ◌++◌, filter, map, Option, Some, None, ⊤}
 use Rattle.lapd_cli_live.specs.declared.service.Service.{Service}
 use Rattle.lapd_cli_live.specs.declared.service.Until.{Until}
-use Rattle.lapd_cli_line.specs.declared.outside.Woken.TheVariants as woken
-use Rattle.lapd_cli_line.specs.IoEvents.{Arrives, IoEvent, FindsNone, Reads, Sends, Waits, is_reached}
+use Rattle.lapd_cli_wire.specs.declared.outside.Woken.TheVariants as woken
+use Rattle.lapd_cli_wire.specs.IoEvents.{Arrives, IoEvent, FindsNone, Reads, Sends, Waits, is_reached}
 use Rattle.lapd_cli_live.specs.Log.{LiveState, moment_of}
 use Rattle.lapd_cli_live.specs.Steps.{DoesDue, Receives, TakesMost}
 

@@ -19,13 +19,13 @@ use Rattle.lapd_cli_live.specs.declared.live_side.LiveSide.{LiveSide}
 use Rattle.lapd_cli_live.specs.declared.input.LiveStop.TheVariants.{Script, Unmet}
 use Rattle.lapd_cli_live.specs.declared.obeyed.Obeyed.{Obeyed}
 use Rattle.lapd_cli_live.specs.declared.obeyed.Obeyed.TheVariants as obeyed
-use Rattle.lapd_cli_line.specs.declared.impairment.Impairment.{Impairment}
-use Rattle.lapd_cli_line.specs.declared.outside.Lines.{Lines}
-use Rattle.lapd_cli_line.specs.declared.outside.Lines.TheVariants.{Awaited, Ignored}
+use Rattle.lapd_cli_wire.specs.declared.impairment.Impairment.{Impairment}
+use Rattle.lapd_cli_wire.specs.declared.outside.Lines.{Lines}
+use Rattle.lapd_cli_wire.specs.declared.outside.Lines.TheVariants.{Awaited, Ignored}
 use Rattle.lapd_cli_live.specs.declared.service.EndReason.{EndReason}
 use Rattle.lapd_cli_live.specs.declared.service.EndReason.TheVariants as end_reason
 use Rattle.lapd_cli_live.specs.declared.service.Until.TheVariants as until
-use Rattle.lapd_cli_line.specs.IoEvents.{IoEvent}
+use Rattle.lapd_cli_wire.specs.IoEvents.{IoEvent}
 use Rattle.lapd_cli_live.specs.Typed.{typed_action_of}
 use Rattle.lapd_cli_live.specs.Log.{Chain, HappenBeside, LiveState, state_of}
 use Rattle.lapd_cli_live.specs.Steps.{IsServed}

@@ -12,16 +12,16 @@ use Rattle.lapd_tei_audit.specs.declared.audit_step.AuditStep.{AuditStep}
 use Rattle.lapd_tei_audit.specs.declared.audit_step.AuditStep.TheVariants as audit
 use Rattle.lapd_sides.specs.Either.{Answers, HasNextDeadline, Takes, side_of}
 use Rattle.lapd_cli_side_lines.specs.Calls.{ExpireInOrder}
-use Rattle.lapd_cli_line.specs.declared.outside.Lines.{Lines}
-use Rattle.lapd_cli_line.specs.declared.outside.Lines.TheVariants.{Awaited, Ignored}
-use Rattle.lapd_cli_line.specs.declared.outside.Woken.{Woken}
-use Rattle.lapd_cli_line.specs.declared.outside.Woken.TheVariants as woken
+use Rattle.lapd_cli_wire.specs.declared.outside.Lines.{Lines}
+use Rattle.lapd_cli_wire.specs.declared.outside.Lines.TheVariants.{Awaited, Ignored}
+use Rattle.lapd_cli_wire.specs.declared.outside.Woken.{Woken}
+use Rattle.lapd_cli_wire.specs.declared.outside.Woken.TheVariants as woken
 use Rattle.lapd_cli_live.specs.declared.service.Service.{Service}
 use Rattle.lapd_cli_live.specs.declared.service.Until.{Until}
 use Rattle.lapd_cli_live.specs.declared.service.Until.TheVariants as until
 use Rattle.lapd_cli_live.specs.declared.service.EndReason.{EndReason}
 use Rattle.lapd_cli_live.specs.declared.service.EndReason.TheVariants as end_reason
-use Rattle.lapd_cli_line.specs.IoEvents.{Arrives, FindsNone, Waits, is_reached}
+use Rattle.lapd_cli_wire.specs.IoEvents.{Arrives, FindsNone, Waits, is_reached}
 use Rattle.lapd_cli_live.specs.Entries.{Received, refused}
 use Rattle.lapd_cli_live.specs.Log.{Around, CarriesOut, CarriesOutAll, Chain, Happen, HappenBeside, LiveEvent, LiveState, ReadsClock, Shows, is_matched, moment_of, read_at}
 

@@ -14,8 +14,8 @@ use crate::live_side::LiveSide;
 use crate::obeyed::Obeyed;
 use crate::service::EndReason;
 use crate::typed_lines::TypedLines;
-use lapd_cli_line::{Lines, Outside};
 use lapd_cli_script::{LineFault, ScriptFault, is_passed_over};
+use lapd_cli_wire::{Lines, Outside};
 use std::alloc::{AllocError, Global};
 use std::io::{ErrorKind, Read, Write};
 

@@ -27,10 +27,10 @@ mod typed_lines;
 
 pub use fault::LiveFault;
 pub use input::{Console, LiveStop, live_script, live_session};
-pub use lapd_cli_line::{
+pub use lapd_cli_side_lines::LineStyle;
+pub use lapd_cli_wire::{
     Impaired, Impairment, Incident, Lines, MOST_RECEIVED, Outside, Sending, Tap, Tapped, Woken,
 };
-pub use lapd_cli_side_lines::LineStyle;
 pub use laws::{
     expect_finds_what_is_printed, no_service_ends_early, no_timer_expires_early,
     prompt_lines_are_computed,

@@ -7,11 +7,11 @@ use crate::fault::LiveFault;
 use crate::live_side::LiveSide;
 use crate::obeyed::Obeyed;
 use crate::service::{EndReason, Service, Until};
-use lapd_cli_line::{Impairment, Lines, Outside};
 use lapd_cli_live_text::{
     LiveLine, awaited_line, awaited_text, push_link, push_management, read_live_line,
 };
 use lapd_cli_script::LineFault;
+use lapd_cli_wire::{Impairment, Lines, Outside};
 use lapd_sides::{EitherSide, LinkId, SideKind, Tei};
 use std::io::Write;
 

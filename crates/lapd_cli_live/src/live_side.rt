@@ -4,7 +4,7 @@ ghost use Rattle.std.specs.Prelude.{◌≡◌, map, IfOk, IfSome, OnErr, OnOk};
 ghost use Rattle.std.specs.List.{All};
 ghost use Rattle.lapd_sides_links.specs.Effects.{HasLeastOctets};
 ghost use Rattle.lapd_frame.specs.declared.Side.{Side as SideValue};
-ghost use Rattle.lapd_cli_line.specs.IoEvents.{SendsFront};
+ghost use Rattle.lapd_cli_wire.specs.IoEvents.{SendsFront};
 ghost use Rattle.lapd_cli_live.specs.Entries.{Delivered};
 ghost use Rattle.std.specs.Io.KnownBytes.{Keeps};
 ghost use Rattle.lapd_cli_live.specs.Printers.{PrintsOn, SendsAll, shown};
@@ -13,8 +13,8 @@ ghost use Rattle.lapd_cli_live.specs.Steps.{end_by_wait as end_of_wait, ended_by
 use crate::fault::LiveFault;
 use crate::printer::Printer;
 use crate::service::{EndReason, Service, Until};
-use lapd_cli_line::{Incident, Lines, MOST_RECEIVED, Outside, Woken, is_reached};
 use lapd_cli_script::LineFault;
+use lapd_cli_wire::{Incident, Lines, MOST_RECEIVED, Outside, Woken, is_reached};
 use lapd_frame::{Frame, FrameFault, Side, read};
 use lapd_port::PortFault;
 use lapd_sides::{Acts, EitherSide, FrameOctets, Letter, LinkId, Primitive, Request, What};

@@ -1,6 +1,6 @@
 //! How long a side runs, and what ends it.
 
-use lapd_cli_line::Lines;
+use lapd_cli_wire::Lines;
 
 /// How long a side runs.
 #[derive(Clone, Copy)]

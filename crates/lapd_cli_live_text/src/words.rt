@@ -6,9 +6,9 @@ ghost use Rattle.lapd_cli_grammar.specs.Values.{line_values};
 ghost use Rattle.lapd_cli_live_text.specs.LiveRequests.{live_request, live_request_of, live_request_of_line, live_script_of as live_script_named};
 
 use lapd_cli_grammar::{FormedLine, Script, read_form};
-use lapd_cli_line::Impairment;
 use lapd_cli_script::LineFault;
 use lapd_cli_side_lines::{link_of, side_request};
+use lapd_cli_wire::Impairment;
 use lapd_frame::{Side, Tei};
 use lapd_sides::{LinkId, Request};
 use std::alloc::Global;

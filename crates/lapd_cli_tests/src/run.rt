@@ -1,6 +1,7 @@
 //! Running a command over any reader, writer and port.
 
 use lapd_cli_answer::answer;
+use lapd_cli_bus::{BusLayout, bus_links};
 use lapd_cli_decode::{
     Drawing, Filter, Follow, FrameStyle, FrameTime, Layout, LineForm, LinesStyle, Style, decode,
     decode_lines, print_lines,
@@ -8,7 +9,6 @@ use lapd_cli_decode::{
 use lapd_cli_link_commands::{bus, draw_pair, loop_over, pair};
 use lapd_cli_options::{DecodeOptions, Interface, Invocation, Job, LinkEnd, PrintedLayout};
 use lapd_cli_script::ScriptFault;
-use lapd_cli_side_bus::{BusLayout, bus_links};
 use lapd_cli_side_commands::{Config, Port, SideRun, Sink, Source, net, user};
 use lapd_cli_side_lines::LineStyle;
 use std::alloc::Global;

@@ -5,10 +5,10 @@ use Rattle.std.specs.declared.alloc.Global.{Global}
 use Rattle.lapd_link_definition.specs.declared.out.Letter.TheVariants as letter
 use Rattle.lapd_table.specs.declared.link_id.LinkId.{LinkId}
 use Rattle.lapd_sides_links.specs.declared.primitive.What.TheVariants as what
-use Rattle.lapd_interface.specs.Interface.{Configs, Interface}
-use Rattle.lapd_interface_laws.specs.Primitives.{link_primitives}
-use Rattle.lapd_interface_laws.specs.Schedule.{at_first, call, configs, IsMessage}
-use Rattle.lapd_interface_laws.proofs.Computed.{Fits, holding, with_octets}
+use Rattle.lapd_side_events.specs.Interface.{Configs, Interface}
+use Rattle.lapd_two_side_laws.specs.Primitives.{link_primitives}
+use Rattle.lapd_two_side_laws.specs.Schedule.{at_first, call, configs, IsMessage}
+use Rattle.lapd_two_side_laws.proofs.Computed.{Fits, holding, with_octets}
 use Rattle.lapd_restart_laws.specs.Restarts.{Change, Moves, NetworkRestarts, UserRestarts, changes, losses, run_across}
 use Rattle.lapd_bus_laws.proofs.Lists.{both_so}
 use Rattle.lapd_clock_laws.specs.Across.{AreInTimeAcross, IsChangeInTime, KeepTeiAsMade, OverhearOthersAcross, clock_across, restarts_at_half}

@@ -9,7 +9,7 @@ use Rattle.lapd_table.specs.declared.link_id.LinkId.{LinkId}
 use Rattle.lapd_sides_links.specs.Links.{Linked, is_held_below, is_link_of, is_served, links_below, new_linked, parameters_for, with_tei}
 use Rattle.lapd_sides.specs.Network.{new_network}
 use Rattle.lapd_sides.specs.User.{new_user}
-use Rattle.lapd_interface.specs.Interface.{Configs, Interface, happens, new_interface}
+use Rattle.lapd_side_events.specs.Interface.{Configs, Interface, happens, new_interface}
 use Rattle.lapd_restart_laws.specs.RestartPremises.{KeepPremisesAsMade}
 use Rattle.lapd_restart_laws.specs.Restarts.{Change, Moves, NetworkRestarts, UserRestarts, changes, counting_on, link_after}
 use Rattle.lapd_restart_laws.specs.SafeAcross.{IsSafeAcross}

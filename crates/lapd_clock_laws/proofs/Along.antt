@@ -5,11 +5,11 @@ use Rattle.std.specs.List.{AllByRecursion}
 use Rattle.lapd_frame.specs.declared.Side.TheVariants as side
 use Rattle.lapd_table.specs.declared.link_id.LinkId.{LinkId}
 use Rattle.lapd_sides.specs.User.{User}
-use Rattle.lapd_interface.specs.Bus.{Bus, BusEvent, OfTerminal, OfNetwork, Join, Restart, KeepsTerminal, OverhearsNothing, bus_step, interface_of, moves_along, moves_of, network_moves, on_line_of, terminal_moves}
-use Rattle.lapd_interface.specs.Interface.{Configs, Interface, Move, happens, run}
-use Rattle.lapd_interface.specs.SideView.{SideEvent, SideView, Take, Lose, Expire, Ask, Overhear}
-use Rattle.lapd_interface.proofs.Indices.{same_index}
-use Rattle.lapd_interface_laws.specs.Premises.{AreTimely, IsTimely}
+use Rattle.lapd_side_events.specs.Bus.{Bus, BusEvent, OfTerminal, OfNetwork, Join, Restart, KeepsTerminal, OverhearsNothing, bus_step, interface_of, moves_along, moves_of, network_moves, on_line_of, terminal_moves}
+use Rattle.lapd_side_events.specs.Interface.{Configs, Interface, Move, happens, run}
+use Rattle.lapd_side_events.specs.SideView.{SideEvent, SideView, Take, Lose, Expire, Ask, Overhear}
+use Rattle.lapd_side_events.proofs.Indices.{same_index}
+use Rattle.lapd_two_side_laws.specs.Premises.{AreTimely, IsTimely}
 use Rattle.lapd_bus_laws.specs.Holdings.{KeepsHolding, LeavesAlone}
 use Rattle.lapd_bus_laws.specs.Links.{IsTimelyFor, Throughout}
 use Rattle.lapd_bus_laws.proofs.Followed.{one_event}

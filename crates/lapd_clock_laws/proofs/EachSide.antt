@@ -34,13 +34,13 @@ use Rattle.lapd_sides.specs.AllTeis.{check_of_all, removal_of_all}
 use Rattle.lapd_sides.specs.Network.{Network, network_rules, assigner_acts, group_frame, sends_to_all}
 use Rattle.lapd_sides.specs.SideState.{Rules, SideState, unmoved, discards, unit_from_group, with_stopped}
 use Rattle.lapd_sides.specs.User.{User, user_rules, gives_up_pending, terminal_acts}
-use Rattle.lapd_interface.specs.Interface.{behaviour}
-use Rattle.lapd_interface.specs.SideView.{SideView, SideEvent, Take, Lose, Expire, Ask, Overhear, reaction}
-use Rattle.lapd_interface_laws.specs.Addressed.{is_named, is_for, those_for, reads_as_poll, is_poll_for}
-use Rattle.lapd_interface_laws.proofs.LinkParts.{absent_acts, absent_expires, none_pass, other_acts, other_expires, own_expires, own_granted, own_is_step, own_reaction, spelled_is_for}
-use Rattle.lapd_interface_laws.proofs.Managed.{message_is_other, not_of_group}
-use Rattle.lapd_interface_laws.proofs.Reactions.{AnyRequest, Inputs, IsOfRequest, Law, HoldsOfLinks, HoldsOfRules, HoldsOfEvents, PermitsEvent, PermitsFault, PermitsFirst, PermitsFrame, any_request, moment_or, reacts}
-use Rattle.lapd_interface_laws.proofs.Requests.{HoldsInTurn, by_events, forgotten_by, network_asked, sent_to_group, step_at, terminal_so, user_asked}
+use Rattle.lapd_side_events.specs.Interface.{behaviour}
+use Rattle.lapd_side_events.specs.SideView.{SideView, SideEvent, Take, Lose, Expire, Ask, Overhear, reaction}
+use Rattle.lapd_two_side_laws.specs.Addressed.{is_named, is_for, those_for, reads_as_poll, is_poll_for}
+use Rattle.lapd_two_side_laws.proofs.LinkParts.{absent_acts, absent_expires, none_pass, other_acts, other_expires, own_expires, own_granted, own_is_step, own_reaction, spelled_is_for}
+use Rattle.lapd_two_side_laws.proofs.Managed.{message_is_other, not_of_group}
+use Rattle.lapd_two_side_laws.proofs.Reactions.{AnyRequest, Inputs, IsOfRequest, Law, HoldsOfLinks, HoldsOfRules, HoldsOfEvents, PermitsEvent, PermitsFault, PermitsFirst, PermitsFrame, any_request, moment_or, reacts}
+use Rattle.lapd_two_side_laws.proofs.Requests.{HoldsInTurn, by_events, forgotten_by, network_asked, sent_to_group, step_at, terminal_so, user_asked}
 use Rattle.lapd_clock_laws.specs.Clock.{moment_of}
 use Rattle.lapd_clock_laws.specs.InTime.{OverhearsOthers}
 use Rattle.lapd_clock_laws.proofs.LinkDeadlines.{Continues, manages_continues, no_change, one_after_another, passes_on, step_continues, stopping, t200_of, with_other_frames}

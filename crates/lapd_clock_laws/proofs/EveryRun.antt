@@ -19,11 +19,11 @@ use Rattle.lapd_tei.specs.Assigner.{known_held}
 use Rattle.lapd_sides.specs.Network.{new_network, network_rules}
 use Rattle.lapd_sides.specs.SideState.{Rules, SideState}
 use Rattle.lapd_sides.specs.User.{links_of_fixed, new_user, user_rules}
-use Rattle.lapd_interface.specs.Interface.{Configs, Interface, Move, behaviour, by_user, by_network, happens, new_interface, side_does}
-use Rattle.lapd_interface.specs.SideView.{Behaviour, SideView, SideEvent, Take, Lose, Expire, Ask, Overhear, does, left, reaction}
-use Rattle.lapd_interface_laws.specs.Addressed.{is_for, is_poll_for, is_final_for, those_for}
-use Rattle.lapd_interface_laws.specs.Premises.{AreTimely, IsTimely, IsTimelyMove}
-use Rattle.lapd_interface_laws.proofs.Reactions.{AnyRequest, HoldsOfRules}
+use Rattle.lapd_side_events.specs.Interface.{Configs, Interface, Move, behaviour, by_user, by_network, happens, new_interface, side_does}
+use Rattle.lapd_side_events.specs.SideView.{Behaviour, SideView, SideEvent, Take, Lose, Expire, Ask, Overhear, does, left, reaction}
+use Rattle.lapd_two_side_laws.specs.Addressed.{is_for, is_poll_for, is_final_for, those_for}
+use Rattle.lapd_two_side_laws.specs.Premises.{AreTimely, IsTimely, IsTimelyMove}
+use Rattle.lapd_two_side_laws.proofs.Reactions.{AnyRequest, HoldsOfRules}
 use Rattle.lapd_bus_laws.proofs.Lists.{none_first}
 use Rattle.lapd_clock_laws.specs.Clock.{Clock, Sent, Shows, SideClock, clock_after, new_clock, moment_of, network_clock, octets_of, sent_at, ticks, user_clock}
 use Rattle.lapd_clock_laws.specs.InTime.{AreInTime, AreSent, HasLongT200, IsClear, IsInTime, IsLongEnough, OfMove, OverhearsOthers, OverhearOthers}

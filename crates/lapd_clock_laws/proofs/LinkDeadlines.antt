@@ -31,11 +31,11 @@ use Rattle.lapd_sides_links.specs.declared.config.Config.{Config}
 use Rattle.lapd_sides_links.specs.Effects.{Effects, sent_by, message_sent, timed, timed_by, started, stopped}
 use Rattle.lapd_sides_links.specs.Links.{Links, Linked, Served, new_linked, or_new, parameters_for, is_link_of, with_tei, without_tei}
 use Rattle.lapd_sides.specs.Management.{links_with, links_without, manages}
-use Rattle.lapd_interface_laws.specs.Addressed.{is_for, those_for, reads_as_poll, reads_as_final, is_poll_for, is_final_for}
-use Rattle.lapd_interface_laws.specs.Owed.{PassesBy, IsStep}
-use Rattle.lapd_interface_laws.proofs.Lines.{any_among}
-use Rattle.lapd_interface_laws.proofs.LinkParts.{none_pass}
-use Rattle.lapd_interface_laws.proofs.Managed.{message_is_other, neither}
+use Rattle.lapd_two_side_laws.specs.Addressed.{is_for, those_for, reads_as_poll, reads_as_final, is_poll_for, is_final_for}
+use Rattle.lapd_two_side_laws.specs.Owed.{PassesBy, IsStep}
+use Rattle.lapd_two_side_laws.proofs.Lines.{any_among}
+use Rattle.lapd_two_side_laws.proofs.LinkParts.{none_pass}
+use Rattle.lapd_two_side_laws.proofs.Managed.{message_is_other, neither}
 use Rattle.lapd_clock_laws.proofs.PolledRows.{owes, owes_by, answers_poll, polls, IsGuarded, one_of_both, each_step}
 
 -- ---- The deadline of T200 after the outputs of a step.

@@ -20,14 +20,14 @@ use Rattle.lapd_sides.specs.Management.{manages}
 use Rattle.lapd_sides.specs.SideState.{link_of, expires, takes}
 use Rattle.lapd_sides.specs.Network.{assigner_acts, network_requested}
 use Rattle.lapd_sides.specs.User.{terminal_acts, user_requested}
-use Rattle.lapd_interface.specs.Bus.{Bus, BusEvent, OfTerminal, OfNetwork, Join, Restart, after_events, from_now, interface_of, moves_along}
-use Rattle.lapd_interface.specs.Interface.{Configs, from_here, Interface, Move, run}
-use Rattle.lapd_interface.specs.SideView.{does}
-use Rattle.lapd_interface_laws.specs.Premises.{AreTimely, GiveTeiOnce}
-use Rattle.lapd_interface_laws.specs.Primitives.{IsReceived, given_to, known_of, link_primitives}
-use Rattle.lapd_interface_laws.specs.Projects.{IsReceivedByUser}
-use Rattle.lapd_interface_laws.specs.Schedule.{at_first, call, configs, IsMessage}
-use Rattle.lapd_interface_laws.proofs.Computed.{Fits, differ, holding, one_of, received_as, with_both, with_octets}
+use Rattle.lapd_side_events.specs.Bus.{Bus, BusEvent, OfTerminal, OfNetwork, Join, Restart, after_events, from_now, interface_of, moves_along}
+use Rattle.lapd_side_events.specs.Interface.{Configs, from_here, Interface, Move, run}
+use Rattle.lapd_side_events.specs.SideView.{does}
+use Rattle.lapd_two_side_laws.specs.Premises.{AreTimely, GiveTeiOnce}
+use Rattle.lapd_two_side_laws.specs.Primitives.{IsReceived, given_to, known_of, link_primitives}
+use Rattle.lapd_two_side_laws.specs.Projects.{IsReceivedByUser}
+use Rattle.lapd_two_side_laws.specs.Schedule.{at_first, call, configs, IsMessage}
+use Rattle.lapd_two_side_laws.proofs.Computed.{Fits, differ, holding, one_of, received_as, with_both, with_octets}
 use Rattle.lapd_bus_laws.specs.Links.{Throughout as bus_throughout}
 use Rattle.lapd_bus_laws.specs.Runs.{fixed_call, two_fixed}
 use Rattle.lapd_bus_laws.proofs.Checks.{keeps_holding, keeps_holding_so, passes as bus_passes, throughout_by}

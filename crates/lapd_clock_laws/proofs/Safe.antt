@@ -10,13 +10,13 @@ use Rattle.lapd_table.specs.declared.link_id.LinkId.{LinkId}
 use Rattle.lapd_sides.specs.Network.{new_network}
 use Rattle.lapd_sides.specs.User.{User, new_user}
 use Rattle.lapd_sides_links.specs.Links.{Linked, new_linked, parameters_for}
-use Rattle.lapd_interface.specs.Bus.{Bus, BusEvent, KeepsTerminal, NewTerminal, bus_step, connected, from_now, interface_of, moves_along, new_bus, recorded_anew}
-use Rattle.lapd_interface.specs.Interface.{Configs, Interface, Move, from_here, new_interface}
-use Rattle.lapd_interface.specs.SideView.{SideView}
-use Rattle.lapd_interface_laws.specs.Premises.{AreTimely, GiveTeiOnce, LeaveTeiTaken}
-use Rattle.lapd_interface_laws.specs.Projects.{IsSafeAt}
-use Rattle.lapd_interface_laws.proofs.AsMade.{made_link_safe}
-use Rattle.lapd_interface_laws.proofs.Whole.{link_safe_from}
+use Rattle.lapd_side_events.specs.Bus.{Bus, BusEvent, KeepsTerminal, NewTerminal, bus_step, connected, from_now, interface_of, moves_along, new_bus, recorded_anew}
+use Rattle.lapd_side_events.specs.Interface.{Configs, Interface, Move, from_here, new_interface}
+use Rattle.lapd_side_events.specs.SideView.{SideView}
+use Rattle.lapd_two_side_laws.specs.Premises.{AreTimely, GiveTeiOnce, LeaveTeiTaken}
+use Rattle.lapd_two_side_laws.specs.Projects.{IsSafeAt}
+use Rattle.lapd_two_side_laws.proofs.AsMade.{made_link_safe}
+use Rattle.lapd_two_side_laws.proofs.Whole.{link_safe_from}
 use Rattle.lapd_bus_laws.specs.Holdings.{Assigns, IsClear, IsOnlyClaimant, IsReached, KeepsTeisApart}
 use Rattle.lapd_bus_laws.specs.Links.{AssignsOthers, IsNewHere, IsSole, ObtainsOnce, Throughout}
 use Rattle.lapd_bus_laws.proofs.Holding.{first_is_safe, holding_is_safe}

@@ -9,8 +9,8 @@ use Rattle.lapd_frame.specs.declared.Side.{Side}
 use Rattle.lapd_frame.specs.Reading.{frame_at}
 use Rattle.lapd_table.specs.declared.link_id.LinkId.{LinkId}
 use Rattle.lapd_sides_links.specs.Links.{Linked}
-use Rattle.lapd_interface.specs.SideView.{SideEvent, Take, Lose, Expire, Ask, Overhear, left}
-use Rattle.lapd_interface_laws.specs.Addressed.{is_for, is_poll_for, is_final_for, reads_as_poll, reads_as_final}
+use Rattle.lapd_side_events.specs.SideView.{SideEvent, Take, Lose, Expire, Ask, Overhear, left}
+use Rattle.lapd_two_side_laws.specs.Addressed.{is_for, is_poll_for, is_final_for, reads_as_poll, reads_as_final}
 use Rattle.lapd_clock_laws.specs.Clock.{Sent, SideClock, octets_of, moment_of, still_in_transit, sent_at}
 use Rattle.lapd_clock_laws.specs.InTime.{AreSent}
 use Rattle.lapd_clock_laws.proofs.EachSide.{takes_poll}

@@ -13,9 +13,9 @@ use Rattle.lapd_frame.specs.Address.{other_side}
 use Rattle.lapd_table.specs.declared.link_id.LinkId.{LinkId}
 use Rattle.lapd_sides_links.specs.Expiries.{IsPast, of_served}
 use Rattle.lapd_sides_links.specs.Links.{Linked, Served}
-use Rattle.lapd_interface.specs.Interface.{Configs, Interface, Move, happens}
-use Rattle.lapd_interface.specs.SideView.{SideEvent, Take, Lose, Expire, Ask, Overhear}
-use Rattle.lapd_interface_laws.specs.Addressed.{is_for}
+use Rattle.lapd_side_events.specs.Interface.{Configs, Interface, Move, happens}
+use Rattle.lapd_side_events.specs.SideView.{SideEvent, Take, Lose, Expire, Ask, Overhear}
+use Rattle.lapd_two_side_laws.specs.Addressed.{is_for}
 use Rattle.lapd_bus_laws.proofs.Lists.{both_so}
 use Rattle.lapd_clock_laws.specs.Clock.{Clock, Sent, SideClock, clock_after, moment_of, network_clock, user_clock}
 use Rattle.lapd_clock_laws.specs.InTime.{AreSent, IsInOrder, IsInRange, IsInTime, IsPrompt, IsWhenDue, OfMove, Premise, TakesFirst, Throughout}

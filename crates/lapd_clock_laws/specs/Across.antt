@@ -5,10 +5,10 @@ use Rattle.std.specs.declared.alloc.Global.{Global}
 use Rattle.lapd_table.specs.declared.link_id.LinkId.{LinkId}
 use Rattle.lapd_sides.specs.declared.request.Request.TheVariants as request
 use Rattle.lapd_sides.specs.Worked as sides
-use Rattle.lapd_interface.specs.Interface.{Configs, Interface}
-use Rattle.lapd_interface.specs.SideView.{Take, Ask}
-use Rattle.lapd_interface_laws.specs.Premises.{IsMoveLeavingTeiTaken}
-use Rattle.lapd_interface_laws.specs.Schedule.{by_network, by_user, call}
+use Rattle.lapd_side_events.specs.Interface.{Configs, Interface}
+use Rattle.lapd_side_events.specs.SideView.{Take, Ask}
+use Rattle.lapd_two_side_laws.specs.Premises.{IsMoveLeavingTeiTaken}
+use Rattle.lapd_two_side_laws.specs.Schedule.{by_network, by_user, call}
 use Rattle.lapd_restart_laws.specs.RestartPremises.{KeepsPremises}
 use Rattle.lapd_restart_laws.specs.Restarts.{Change, Moves, UserRestarts, changes}
 use Rattle.lapd_clock_laws.specs.Clock.{Clock, clock_after}

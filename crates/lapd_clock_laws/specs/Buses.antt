@@ -1,8 +1,8 @@
 -- The premises of a bus that are not about the clock. T200 of a link is timely by the clock of its
 -- terminal's interface.
 use Rattle.std.specs.Prelude.{◌≡◌, ℕ, true, slice_get, is_some}
-use Rattle.lapd_interface.specs.Bus.{Bus, BusEvent, OfNetwork}
-use Rattle.lapd_interface.specs.Interface.{Configs}
+use Rattle.lapd_side_events.specs.Bus.{Bus, BusEvent, OfNetwork}
+use Rattle.lapd_side_events.specs.Interface.{Configs}
 use Rattle.lapd_table.specs.declared.link_id.LinkId.{LinkId}
 use Rattle.lapd_bus_laws.specs.Holdings.{LeavesAlone, RequestsUnanswered}
 use Rattle.lapd_bus_laws.specs.Links.{AssignsOthers}

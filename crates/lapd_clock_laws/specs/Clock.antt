@@ -3,8 +3,8 @@ use Rattle.std.specs.Prelude.{◌≡◌, ℕ, List, [], ◌++◌, drop, map}
 use Rattle.std.specs.List.{remove}
 use Rattle.lapd_frame.specs.declared.Side.{Side}
 use Rattle.lapd_frame.specs.declared.Side.TheVariants as side
-use Rattle.lapd_interface.specs.Interface.{Configs, Interface, user_behaviour, network_behaviour, by_user, by_network}
-use Rattle.lapd_interface.specs.SideView.{Behaviour, SideView, SideEvent, Take, Lose, Expire, Ask, Overhear, reaction}
+use Rattle.lapd_side_events.specs.Interface.{Configs, Interface, user_behaviour, network_behaviour, by_user, by_network}
+use Rattle.lapd_side_events.specs.SideView.{Behaviour, SideView, SideEvent, Take, Lose, Expire, Ask, Overhear, reaction}
 
 -- octets in transit, and the moment at which they were sent, in milliseconds
 pub record Sent : Type 0 where

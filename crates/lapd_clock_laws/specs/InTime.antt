@@ -11,9 +11,9 @@ use Rattle.lapd_frame.specs.Address.{other_side}
 use Rattle.lapd_table.specs.declared.link_id.LinkId.{LinkId}
 use Rattle.lapd_sides_links.specs.Expiries.{IsPast, of_served}
 use Rattle.lapd_sides_links.specs.Links.{Linked, Served}
-use Rattle.lapd_interface.specs.Interface.{Configs, Interface, Move, happens}
-use Rattle.lapd_interface.specs.SideView.{SideEvent, Expire, Overhear}
-use Rattle.lapd_interface_laws.specs.Addressed.{is_for, those_for}
+use Rattle.lapd_side_events.specs.Interface.{Configs, Interface, Move, happens}
+use Rattle.lapd_side_events.specs.SideView.{SideEvent, Expire, Overhear}
+use Rattle.lapd_two_side_laws.specs.Addressed.{is_for, those_for}
 use Rattle.lapd_clock_laws.specs.Clock.{Sent, Clock, SideClock, moment_of, user_clock, network_clock, clock_after}
 
 -- ---- Of one event of a side, with the clock before it.

@@ -10,10 +10,10 @@ use Rattle.lapd_sides.specs.Network.{new_network}
 use Rattle.lapd_sides.specs.User.{User, new_user}
 use Rattle.lapd_sides.specs.Worked as sides
 use Rattle.lapd_sides_links.specs.declared.config.Config.{Config}
-use Rattle.lapd_interface.specs.Interface.{Configs, Interface, Move, new_interface}
-use Rattle.lapd_interface.specs.Bus.{BusEvent, OfTerminal, OfNetwork, connected}
-use Rattle.lapd_interface.specs.SideView.{SideView, Take, Lose, Expire, Ask}
-use Rattle.lapd_interface_laws.specs.Schedule.{by_user, by_network, call, configs}
+use Rattle.lapd_side_events.specs.Interface.{Configs, Interface, Move, new_interface}
+use Rattle.lapd_side_events.specs.Bus.{BusEvent, OfTerminal, OfNetwork, connected}
+use Rattle.lapd_side_events.specs.SideView.{SideView, Take, Lose, Expire, Ask}
+use Rattle.lapd_two_side_laws.specs.Schedule.{by_user, by_network, call, configs}
 use Rattle.lapd_bus_laws.specs.Runs.{fixed_call, with_fixed_tei}
 use Rattle.lapd_clock_laws.specs.InTime.{Premise, IsInOrder, IsInRange, IsPrompt, TakesFirst, IsWhenDue}
 

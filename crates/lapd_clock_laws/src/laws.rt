@@ -10,10 +10,10 @@ ghost use Rattle.lapd_sides_links.specs.Expiries.{IsDue};
 ghost use Rattle.lapd_sides_links.specs.Links.{Served, new_linked, parameters_for};
 ghost use Rattle.lapd_sides.specs.Network.{new_network};
 ghost use Rattle.lapd_sides.specs.User.{new_user};
-ghost use Rattle.lapd_interface.specs.Interface.{Configs, Move, Interface, new_interface, from_here};
-ghost use Rattle.lapd_interface.specs.SideView.{Expire};
-ghost use Rattle.lapd_interface_laws.specs.Premises.{AreTimely, GiveTeiOnce, LeaveTeiTaken};
-ghost use Rattle.lapd_interface_laws.specs.Projects.{IsSafeAt};
+ghost use Rattle.lapd_side_events.specs.Interface.{Configs, Move, Interface, new_interface, from_here};
+ghost use Rattle.lapd_side_events.specs.SideView.{Expire};
+ghost use Rattle.lapd_two_side_laws.specs.Premises.{AreTimely, GiveTeiOnce, LeaveTeiTaken};
+ghost use Rattle.lapd_two_side_laws.specs.Projects.{IsSafeAt};
 ghost use Rattle.lapd_clock_laws.specs.Clock.{Clock, Shows, new_clock};
 ghost use Rattle.lapd_clock_laws.specs.InTime.{AreInTime, HasLongT200, IsClear, IsLongEnough, IsWhenDue, OverhearOthers};
 
@@ -56,7 +56,7 @@ pub fn every_run_in_time_is_timely()
 /// Every link between two sides is safe after every run in which its frames are in transit for at
 /// most half of T200, and its TEI is assigned once.
 ///
-/// This is `each_link_is_safe` of `lapd_interface_laws`, whose premise on T200 follows from the
+/// This is `each_link_is_safe` of `lapd_two_side_laws`, whose premise on T200 follows from the
 /// clock ([`every_run_in_time_is_timely`]).
 ///
 /// - `as_made`: any link of two newly created sides. Its TEI is not assigned again after it was
@@ -89,7 +89,7 @@ pub fn each_link_in_time_is_safe()
 {}
 
 /// The timer that `tick` of a side expires is due, so the premise on timers is met by code:
-/// `calls_are_events` of `lapd_interface` says that `tick` expires the timer that is due.
+/// `calls_are_events` of `lapd_side_events` says that `tick` expires the timer that is due.
 pub fn ticks_are_when_due()
     ensures { (id : LinkId) (s : Served) (now : ℕ) (e : RunningTimer) → IsDue now s (Some e)
         → IsWhenDue id (Expire e.timer e.of now) s }

@@ -1,7 +1,7 @@
 //! Links of sides by the clock, after ITU-T Q.921 (09/97): T200 exceeds the time in which a frame
 //! and its answer are in transit.
 //!
-//! The laws of two sides (`lapd_interface_laws`) and of a bus (`lapd_bus_laws`) have the premise
+//! The laws of two sides (`lapd_two_side_laws`) and of a bus (`lapd_bus_laws`) have the premise
 //! that T200 of a link does not expire while a command with P=1 from its side, or a response with
 //! F=1 to it, is in transit. Nobody can see that on a line. Here it follows from a bound on the
 //! time of a frame (Q.921 5.9.1). Nothing here runs. The definitions, in the order of specs/:

@@ -14,7 +14,7 @@
 
 use lapd_follow::{Class, Follower, Packet, Remark, Remarks};
 use lapd_frame::{Side, read};
-use lapd_testing::{Text, split};
+use lapd_test_text::{Text, split};
 use std::alloc::Global;
 use std::test::Fail;
 

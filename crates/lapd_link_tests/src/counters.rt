@@ -2,7 +2,7 @@
 
 use crate::text::number_of;
 use lapd_mod128::Seq;
-use lapd_testing::{Text, split};
+use lapd_test_text::{Text, split};
 
 /// The next and previous counter, the number of steps from one counter to another, whether a
 /// counter lies between two others, and whether the window from V(A) to V(S) is open.

@@ -4,7 +4,7 @@ use crate::rows::condition_of;
 use crate::text::number_of;
 use lapd_frame::{Control, Number, Role, Sapi, Side, Tei, write};
 use lapd_link::{Event, GivenOuts, Link, LinkFault, Out, Outs, Params, Recovery, SendEffect};
-use lapd_testing::{Text, split};
+use lapd_test_text::{Text, split};
 use std::alloc::Global;
 
 /// Operations on the link of SAPI 16 and TEI 126; the frames that it sends, with `-` for each

@@ -3,7 +3,7 @@
 use crate::rows::put_queue;
 use crate::text::number_of;
 use lapd_queue::IQueue;
-use lapd_testing::Text;
+use lapd_test_text::Text;
 use std::alloc::Global;
 
 /// Operations on a queue; their results; and its messages, the sent ones first.

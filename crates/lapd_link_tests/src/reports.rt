@@ -3,7 +3,7 @@
 
 use lapd_frame::{FaultKind, FieldFault, FrameFault, FrmrInfo, Number, Side};
 use lapd_link::LinkFault;
-use lapd_testing::Text;
+use lapd_test_text::Text;
 use lapd_timers::Timer;
 use std::fmt::Display;
 

@@ -21,7 +21,7 @@ use crate::rows::every_state::{
 use crate::text::with_octets;
 use crate::wants::none_is_wrong;
 use lapd_link::{IQueue, Link, Timer, Window};
-use lapd_testing::{Subject, Text, split, wrong_row};
+use lapd_test_text::{Subject, Text, split, wrong_row};
 use std::alloc::Global;
 use std::test::Fail;
 

@@ -1,7 +1,7 @@
 //! Rows of text, and text that is composed piece by piece.
 
 use lapd_frame::Control;
-use lapd_testing::Text;
+use lapd_test_text::Text;
 use std::alloc::Global;
 
 /// The number in a word, or 0 if it has none.

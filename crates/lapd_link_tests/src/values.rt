@@ -8,7 +8,7 @@ use lapd_frame::Side;
 use lapd_link::Link;
 use lapd_queue::IQueue;
 use lapd_supervision::Window;
-use lapd_testing::{Subject, Text, split, wrong_row};
+use lapd_test_text::{Subject, Text, split, wrong_row};
 use std::alloc::Global;
 use std::test::Fail;
 

@@ -1,4 +1,4 @@
-use lapd_testing::Text;
+use lapd_test_text::Text;
 use std::test::Fail;
 
 /// Fails the test at the first wrong row, which each check returns, if there is one. `made` is its

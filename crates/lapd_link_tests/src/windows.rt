@@ -4,7 +4,7 @@ use crate::rows::put_window;
 use crate::text::{number_of, put_control};
 use lapd_frame::Number;
 use lapd_supervision::Window;
-use lapd_testing::{Text, split};
+use lapd_test_text::{Text, split};
 
 /// Operations on a window; the control field to send, as octets; and all values of the window that
 /// are not 0 or false. `try` is `take` without a change of the window.

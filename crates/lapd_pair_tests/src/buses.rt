@@ -9,7 +9,7 @@ use crate::watch::{Watch, verdict};
 use lapd_follow::{Identity, Remark, Remarks};
 use lapd_frame::{Side, Tei};
 use lapd_tei::{Bus, BusMove, TeiKind, TeiMessage, TeiOut};
-use lapd_testing::{Draws, Text};
+use lapd_test_text::{Draws, Text};
 use std::alloc::Global;
 use std::test::Fail;
 

@@ -3,7 +3,7 @@
 use crate::safe::are_safe;
 use lapd_frame::Side;
 use lapd_pair::{Move, Pair};
-use lapd_testing::Draws;
+use lapd_test_text::Draws;
 use std::alloc::Global;
 
 /// Draws random moves of two ends, and counts the messages and unit data that they submit.

@@ -12,7 +12,7 @@ use lapd_frame::{MOST_OCTETS, Side};
 use lapd_link::Recovery;
 use lapd_link::Recovery::{Enquiry, LastMessage};
 use lapd_pair::{Move, Pair};
-use lapd_testing::Text;
+use lapd_test_text::Text;
 use std::alloc::Global;
 use std::test::Fail;
 

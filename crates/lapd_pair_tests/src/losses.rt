@@ -3,7 +3,7 @@
 use crate::draws::MoveDraws;
 use lapd_frame::Side;
 use lapd_pair::{Move, Pair};
-use lapd_testing::Text;
+use lapd_test_text::Text;
 use std::alloc::Global;
 
 /// A pair whose line loses every tenth frame. Frames are numbered from 1 in the order in which they

@@ -20,7 +20,7 @@ use crate::text::{put_frames, put_pair, put_side};
 use lapd_frame::Side;
 use lapd_link::Recovery::{Enquiry, LastMessage};
 use lapd_pair::{Move, Pair, PairFault, Settled};
-use lapd_testing::Text;
+use lapd_test_text::Text;
 use std::alloc::Global;
 use std::test::Fail;
 

@@ -15,7 +15,7 @@ use arrayvec::ArrayVec;
 use lapd_frame::Side;
 use lapd_link::{IQueue, Link, Timer, Window};
 use lapd_pair::{Ending, Fate, Pair, Received};
-use lapd_testing::Text;
+use lapd_test_text::Text;
 
 /// Appends a space and the octets in hexadecimal digits.
 fn put_hex(text: &mut Text, octets: &[u8]) {

@@ -3,7 +3,7 @@
 
 use lapd_follow::{Listener, Packet, Remarks};
 use lapd_frame::Side;
-use lapd_testing::Text;
+use lapd_test_text::Text;
 use std::alloc::Global;
 use std::fmt::Debug;
 use std::test::Fail;

@@ -15,14 +15,14 @@ use Rattle.lapd_sides_links.specs.declared.config.Config.{Config}
 use Rattle.lapd_sides_links.specs.Links.{Links, parameters_for}
 use Rattle.lapd_sides.specs.Network.{Network, new_network}
 use Rattle.lapd_sides.specs.User.{User, new_user}
-use Rattle.lapd_interface_laws.specs.Addressed.{those_for}
-use Rattle.lapd_interface_laws.specs.Establishments.{LinkRecord, LinkRecords}
-use Rattle.lapd_interface.specs.Interface.{fresh_link, Configs, Interface, user_behaviour, network_behaviour, by_user, by_network, with_user, with_network, from_here}
-use Rattle.lapd_interface_laws.specs.Projects.{ShowsEnd, ShowsRecord, ShowRecords, Projects, ProjectsTo}
-use Rattle.lapd_interface.specs.SideView.{Behaviour, SideView}
-use Rattle.lapd_interface_laws.proofs.OneMove.{IsReached, by_user_after, by_network_after, one_move, to_network_unskipped, to_user_unskipped}
-use Rattle.lapd_interface_laws.proofs.Timed.{new_is_timed}
-use Rattle.lapd_interface_laws.proofs.Whole.{IsNew, begins_in}
+use Rattle.lapd_two_side_laws.specs.Addressed.{those_for}
+use Rattle.lapd_two_side_laws.specs.Establishments.{LinkRecord, LinkRecords}
+use Rattle.lapd_side_events.specs.Interface.{fresh_link, Configs, Interface, user_behaviour, network_behaviour, by_user, by_network, with_user, with_network, from_here}
+use Rattle.lapd_two_side_laws.specs.Projects.{ShowsEnd, ShowsRecord, ShowRecords, Projects, ProjectsTo}
+use Rattle.lapd_side_events.specs.SideView.{Behaviour, SideView}
+use Rattle.lapd_two_side_laws.proofs.OneMove.{IsReached, by_user_after, by_network_after, one_move, to_network_unskipped, to_user_unskipped}
+use Rattle.lapd_two_side_laws.proofs.Timed.{new_is_timed}
+use Rattle.lapd_two_side_laws.proofs.Whole.{IsNew, begins_in}
 use Rattle.lapd_restart_laws.specs.RestartPremises.{IsQuick, KeepsPremises, KeepPremises}
 use Rattle.lapd_restart_laws.specs.Restarts.{Change, Moves, NetworkRestarts, UserRestarts, link_after, network_after, user_after, changes, run_across, change_recorded, recorded_across, records_across}
 use Rattle.lapd_restart_laws.specs.SafeAcross.{IsSafeAcross}

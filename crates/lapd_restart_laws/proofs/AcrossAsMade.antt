@@ -1,5 +1,5 @@
 -- Two newly created sides, and restarts of them. They assign or obtain no TEI whose links exist. A
--- run without restarts is a run of `lapd_interface_laws`.
+-- run without restarts is a run of `lapd_two_side_laws`.
 use Rattle.std.proofs.Common.{◌≡◌, ℕ, ◌<◌, ◌≤◌, List, [], ◌∷◌, true, Option, Some, None, refl}
 use Rattle.std.specs.Prelude.{is_some}
 use Rattle.rand_pcg.specs.Lcg.{Lcg}
@@ -7,9 +7,9 @@ use Rattle.lapd_table.specs.declared.link_id.LinkId.{LinkId}
 use Rattle.lapd_sides_links.specs.Links.{Linked, parameters_for}
 use Rattle.lapd_sides.specs.Network.{new_network}
 use Rattle.lapd_sides.specs.User.{new_user}
-use Rattle.lapd_interface.specs.Interface.{Configs, Interface, Move, new_interface, happens, run}
-use Rattle.lapd_interface_laws.proofs.AsMade.{new_are_own, new_are_held, preserves_own, preserves_held, given_once, new_of_user, new_of_network}
-use Rattle.lapd_interface_laws.proofs.OwnSides.{AreHeld, AreOwn}
+use Rattle.lapd_side_events.specs.Interface.{Configs, Interface, Move, new_interface, happens, run}
+use Rattle.lapd_two_side_laws.proofs.AsMade.{new_are_own, new_are_held, preserves_own, preserves_held, given_once, new_of_user, new_of_network}
+use Rattle.lapd_two_side_laws.proofs.OwnSides.{AreHeld, AreOwn}
 use Rattle.lapd_restart_laws.specs.RestartPremises.{KeepsPremises, KeepPremises, KeepsPremisesAsMade, KeepPremisesAsMade}
 use Rattle.lapd_restart_laws.specs.RestartRuns.{moved}
 use Rattle.lapd_restart_laws.specs.Restarts.{Change, Moves, NetworkRestarts, UserRestarts, link_after, changes, run_across}

@@ -16,9 +16,9 @@ use Rattle.lapd_sides_links.specs.declared.primitive.Primitive.{Primitive}
 use Rattle.lapd_sides_links.specs.declared.primitive.What.{What}
 use Rattle.lapd_sides_links.specs.declared.primitive.What.TheVariants as what
 use Rattle.lapd_sides_links.specs.Links.{Linked, Links, of_sapi}
-use Rattle.lapd_interface_laws.specs.Premises.{is_removal}
-use Rattle.lapd_interface_laws.specs.Primitives.{what_for, link_primitives}
-use Rattle.lapd_interface_laws.proofs.LinkParts.{any_more, any_behind}
+use Rattle.lapd_two_side_laws.specs.Premises.{is_removal}
+use Rattle.lapd_two_side_laws.specs.Primitives.{what_for, link_primitives}
+use Rattle.lapd_two_side_laws.proofs.LinkParts.{any_more, any_behind}
 use Rattle.lapd_restart_laws.specs.Restarts.{drop_all, losses_of, losses_at, losses_below, losses}
 
 -- ---- One link.

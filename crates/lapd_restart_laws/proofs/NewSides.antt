@@ -21,7 +21,7 @@ use Rattle.lapd_sides.specs.Network.{Network, new_network}
 use Rattle.lapd_sides.specs.ShowsNetwork.{ShowNetwork}
 use Rattle.lapd_sides.specs.ShowsUser.{ShowUser}
 use Rattle.lapd_sides.specs.User.{User, new_user}
-use Rattle.lapd_interface.specs.Interface.{fresh_link}
+use Rattle.lapd_side_events.specs.Interface.{fresh_link}
 use Rattle.lapd_restart_laws.specs.Restarts.{counting_on, link_after, network_after, user_after}
 use Rattle.lapd_restart_laws.proofs.RestartedSides.{IsMade, made, missing, made_by_network, made_by_user}
 

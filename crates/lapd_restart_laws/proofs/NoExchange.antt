@@ -16,10 +16,10 @@ use Rattle.lapd_pair_laws.specs.Line.{Flight}
 use Rattle.lapd_pair_laws.specs.Move.{View}
 use Rattle.lapd_recovery_laws.specs.QuickRestart.{exchange_in}
 use Rattle.lapd_table.specs.declared.link_id.LinkId.{LinkId}
-use Rattle.lapd_interface_laws.specs.Addressed.{is_for, those_for, all_spelled}
-use Rattle.lapd_interface.specs.SideView.{Behaviour, SideView}
-use Rattle.lapd_interface_laws.specs.Projects.{Projects}
-use Rattle.lapd_interface_laws.proofs.Lines.{any_among, any_read}
+use Rattle.lapd_two_side_laws.specs.Addressed.{is_for, those_for, all_spelled}
+use Rattle.lapd_side_events.specs.SideView.{Behaviour, SideView}
+use Rattle.lapd_two_side_laws.specs.Projects.{Projects}
+use Rattle.lapd_two_side_laws.proofs.Lines.{any_among, any_read}
 use Rattle.lapd_restart_laws.specs.Exchanges.{is_command, is_answer, reads_as, is_of_kind_for, HasNoExchange}
 
 -- ---- One frame.

@@ -28,8 +28,8 @@ use Rattle.lapd_recovery_laws.specs.QuickRestart.{exchange_in, restarts_quickly,
 use Rattle.lapd_recovery_laws.proofs.KeptOnTags.{reached, world_on_tags}
 use Rattle.lapd_recovery_laws.proofs.LostAtRestart.{restart_may_drop}
 use Rattle.lapd_recovery_laws.proofs.QuickRuns.{every_quick_run_reports, quick_user_so, quick_network_so}
-use Rattle.lapd_interface_laws.proofs.OneMove.{AreClosed}
-use Rattle.lapd_interface_laws.proofs.Sendings.{AreSentNow, user_by_invariant, network_by_invariant}
+use Rattle.lapd_two_side_laws.proofs.OneMove.{AreClosed}
+use Rattle.lapd_two_side_laws.proofs.Sendings.{AreSentNow, user_by_invariant, network_by_invariant}
 
 -- ---- Moves leave the parameters unchanged.
 

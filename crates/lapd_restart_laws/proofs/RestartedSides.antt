@@ -16,13 +16,13 @@ use Rattle.lapd_sides_links.specs.declared.config.Config.{Config}
 use Rattle.lapd_sides_links.specs.Links.{Linked, Links, is_served, is_link_of, is_held_below, links_below, with_tei, parameters_for}
 use Rattle.lapd_sides.specs.Network.{new_network}
 use Rattle.lapd_sides.specs.User.{new_user}
-use Rattle.lapd_interface.specs.Interface.{fresh_link}
-use Rattle.lapd_interface_laws.specs.Premises.{is_removal}
-use Rattle.lapd_interface_laws.specs.Primitives.{what_for, link_primitives, known_of, learns_all, nothing_known, AreExpectedOfLink}
-use Rattle.lapd_interface_laws.specs.Projects.{IsTimed, HasLink, AwaitsLink, LacksLink, ShowsEnd, Projects, known_by}
-use Rattle.lapd_interface.specs.SideView.{Behaviour, SideView}
-use Rattle.lapd_interface_laws.proofs.LinkParts.{any_more, any_behind, learns_both, expected_both}
-use Rattle.lapd_interface_laws.proofs.Timed.{new_is_timed}
+use Rattle.lapd_side_events.specs.Interface.{fresh_link}
+use Rattle.lapd_two_side_laws.specs.Premises.{is_removal}
+use Rattle.lapd_two_side_laws.specs.Primitives.{what_for, link_primitives, known_of, learns_all, nothing_known, AreExpectedOfLink}
+use Rattle.lapd_two_side_laws.specs.Projects.{IsTimed, HasLink, AwaitsLink, LacksLink, ShowsEnd, Projects, known_by}
+use Rattle.lapd_side_events.specs.SideView.{Behaviour, SideView}
+use Rattle.lapd_two_side_laws.proofs.LinkParts.{any_more, any_behind, learns_both, expected_both}
+use Rattle.lapd_two_side_laws.proofs.Timed.{new_is_timed}
 use Rattle.lapd_restart_laws.specs.Restarts.{counting_on, link_after, losses}
 use Rattle.lapd_restart_laws.proofs.Losses.{dropped_all, loss_of, losses_are, loss_is_removal}
 

@@ -21,12 +21,12 @@ use Rattle.lapd_sides.specs.Network.{assigner_acts, network_requested}
 use Rattle.lapd_sides.specs.User.{terminal_acts, user_requested}
 use Rattle.lapd_link_definition.specs.declared.out.Letter.TheVariants as letter
 use Rattle.lapd_pair_laws.specs.Schedule.{two_messages}
-use Rattle.lapd_interface.specs.Interface.{run}
-use Rattle.lapd_interface_laws.specs.Schedule.{configs, call, at_first, unassigned, IsMessage}
-use Rattle.lapd_interface.specs.SideView.{does}
-use Rattle.lapd_interface_laws.specs.Primitives.{link_primitives, given_to, known_of, AreExpectedOfLink}
-use Rattle.lapd_interface_laws.specs.Projects.{IsReceivedByNetwork}
-use Rattle.lapd_interface_laws.proofs.Computed.{Fits, holding, with_octets, with_both, second_for_first}
+use Rattle.lapd_side_events.specs.Interface.{run}
+use Rattle.lapd_two_side_laws.specs.Schedule.{configs, call, at_first, unassigned, IsMessage}
+use Rattle.lapd_side_events.specs.SideView.{does}
+use Rattle.lapd_two_side_laws.specs.Primitives.{link_primitives, given_to, known_of, AreExpectedOfLink}
+use Rattle.lapd_two_side_laws.specs.Projects.{IsReceivedByNetwork}
+use Rattle.lapd_two_side_laws.proofs.Computed.{Fits, holding, with_octets, with_both, second_for_first}
 use Rattle.lapd_restart_laws.specs.RestartPremises.{KeepPremises}
 use Rattle.lapd_restart_laws.specs.RestartRuns.{user_restarts, network_restarts, across_both, tei_lost, next_call, with_restart, KeepInPart, command_sent, command_answered, answer_sent, answer_taken, BringsNoCallBack, HasNoAnswer, HasNoCommand, given_up, comes_back, IsQuietForUser}
 use Rattle.lapd_restart_laws.specs.Restarts.{losses, run_across}

@@ -10,8 +10,8 @@ use Rattle.lapd_frame.specs.Address.{other_side}
 use Rattle.lapd_frame.specs.Frame.{Fields}
 use Rattle.lapd_frame.specs.Reading.{frame_at}
 use Rattle.lapd_table.specs.declared.link_id.LinkId.{LinkId}
-use Rattle.lapd_interface_laws.specs.Addressed.{is_for}
-use Rattle.lapd_interface.specs.SideView.{SideView}
+use Rattle.lapd_two_side_laws.specs.Addressed.{is_for}
+use Rattle.lapd_side_events.specs.SideView.{SideView}
 
 -- requests an establishment or a release
 abbrev pub is_command : Control → Bool

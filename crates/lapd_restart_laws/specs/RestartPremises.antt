@@ -1,5 +1,5 @@
 -- The premises of one link if sides restart. Those of moves are unchanged (`Premises` of
--- `lapd_interface_laws`).
+-- `lapd_two_side_laws`).
 use Rattle.std.specs.Prelude.{◌≡◌, true, false, List, [], ◌∷◌, is_some}
 use Rattle.std.specs.List.{list_any}
 use Rattle.lapd_frame.specs.declared.Side.{Side}
@@ -8,10 +8,10 @@ use Rattle.lapd_table.specs.declared.link_id.LinkId.{LinkId}
 use Rattle.lapd_sides_links.specs.Links.{Links}
 use Rattle.lapd_sides.specs.Network.{new_network}
 use Rattle.lapd_sides.specs.User.{new_user}
-use Rattle.lapd_interface.specs.Interface.{Configs, Interface, by_user, by_network}
+use Rattle.lapd_side_events.specs.Interface.{Configs, Interface, by_user, by_network}
 use Rattle.lapd_sides_links.specs.declared.primitive.Primitive.{Primitive}
-use Rattle.lapd_interface_laws.specs.Premises.{is_removal, IsTimelyMove, IsMoveGivingTeiOnce, IsMoveLeavingTeiTaken}
-use Rattle.lapd_interface.specs.SideView.{SideView}
+use Rattle.lapd_two_side_laws.specs.Premises.{is_removal, IsTimelyMove, IsMoveGivingTeiOnce, IsMoveLeavingTeiTaken}
+use Rattle.lapd_side_events.specs.SideView.{SideView}
 use Rattle.lapd_restart_laws.specs.Exchanges.{HasNoExchange}
 use Rattle.lapd_restart_laws.specs.Restarts.{Change, Moves, NetworkRestarts, UserRestarts, changes}
 

@@ -9,10 +9,10 @@ use Rattle.lapd_sides_links.specs.Links.{of_sapi}
 use Rattle.lapd_sides.specs.declared.request.Request.TheVariants as request
 use Rattle.lapd_sides.specs.Network.{new_network}
 use Rattle.lapd_sides.specs.Worked.{random}
-use Rattle.lapd_interface.specs.Interface.{Interface, Move, run}
-use Rattle.lapd_interface.specs.Interface as interface
-use Rattle.lapd_interface_laws.specs.Schedule.{by_user, by_network, configs, call, at_first, assigned}
-use Rattle.lapd_interface.specs.SideView.{Take, Lose, Ask}
+use Rattle.lapd_side_events.specs.Interface.{Interface, Move, run}
+use Rattle.lapd_side_events.specs.Interface as interface
+use Rattle.lapd_two_side_laws.specs.Schedule.{by_user, by_network, configs, call, at_first, assigned}
+use Rattle.lapd_side_events.specs.SideView.{Take, Lose, Ask}
 use Rattle.lapd_restart_laws.specs.Exchanges.{is_command, is_answer, is_of_kind_for, HasNoExchange}
 use Rattle.lapd_restart_laws.specs.RestartPremises.{BringsNoLinkBack, KeepPremises}
 use Rattle.lapd_restart_laws.specs.Restarts.{Change, Moves, NetworkRestarts, UserRestarts, changes}

@@ -14,8 +14,8 @@ use Rattle.lapd_sides_links.specs.declared.primitive.What.TheVariants as what
 use Rattle.lapd_sides_links.specs.Links.{Linked, Links, Served, of_sapi}
 use Rattle.lapd_sides.specs.Network.{Network, new_network}
 use Rattle.lapd_sides.specs.User.{User, new_user}
-use Rattle.lapd_interface_laws.specs.Establishments.{LinkRecords, side_recorded, nothing_recorded}
-use Rattle.lapd_interface.specs.Interface.{Configs, Interface, Move, happens}
+use Rattle.lapd_two_side_laws.specs.Establishments.{LinkRecords, side_recorded, nothing_recorded}
+use Rattle.lapd_side_events.specs.Interface.{Configs, Interface, Move, happens}
 
 -- A move of an interface. Or the network side restarts, with the TEIs that it knows; or the user
 -- side restarts, with a fixed TEI or none, and with the generator of its references.

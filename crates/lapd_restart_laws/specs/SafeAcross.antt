@@ -7,13 +7,13 @@ use Rattle.lapd_pair_laws.specs.Safe.{AreSafe}
 use Rattle.lapd_pair_laws.specs.World.{new_world}
 use Rattle.lapd_recovery_laws.specs.QuickRestart.{run_quickly}
 use Rattle.lapd_table.specs.declared.link_id.LinkId.{LinkId}
-use Rattle.lapd_interface_laws.specs.Establishments.{LinkRecords, IsReceivedUnskipped}
-use Rattle.lapd_interface.specs.Interface.{Configs, Interface}
-use Rattle.lapd_interface_laws.specs.Primitives.{link_primitives, given_to, known_of, AreExpectedOfLink}
-use Rattle.lapd_interface_laws.specs.Projects.{ProjectsTo, ShowRecords}
+use Rattle.lapd_two_side_laws.specs.Establishments.{LinkRecords, IsReceivedUnskipped}
+use Rattle.lapd_side_events.specs.Interface.{Configs, Interface}
+use Rattle.lapd_two_side_laws.specs.Primitives.{link_primitives, given_to, known_of, AreExpectedOfLink}
+use Rattle.lapd_two_side_laws.specs.Projects.{ProjectsTo, ShowRecords}
 use Rattle.lapd_restart_laws.specs.Restarts.{Change, run_across, records_across}
 
--- Layer 3 at each side knows only what is right of the link (`IsRight` of `lapd_interface_laws`), and
+-- Layer 3 at each side knows only what is right of the link (`IsRight` of `lapd_two_side_laws`), and
 -- no error but F, G, H and I was reported. `r` is what was recorded of establishments. Messages
 -- count from the first change on, whichever sides restarted meanwhile.
 pub record IsRightNow (id : LinkId) (i : Interface) (r : LinkRecords) : Type 0 where

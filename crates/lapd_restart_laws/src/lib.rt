@@ -1,7 +1,7 @@
 //! Laws of two sides of which one or both restart while frames are in transit, after ITU-T Q.921
 //! (09/97). Nothing here runs.
 //!
-//! `lapd_interface_laws` has no restart among its events. Here a side may also start anew with its
+//! `lapd_two_side_laws` has no restart among its events. Here a side may also start anew with its
 //! TEIs, and the octets in transit stay there. Begin with [`each_link_is_safe_across_restarts`],
 //! and read specs/ in this order:
 //!

@@ -15,11 +15,11 @@ ghost use Rattle.lapd_sides.specs.Network.{Network, new_network};
 ghost use Rattle.lapd_sides.specs.ShowsNetwork.{ShowNetwork};
 ghost use Rattle.lapd_sides.specs.ShowsUser.{ShowUser};
 ghost use Rattle.lapd_sides.specs.User.{User, new_user};
-ghost use Rattle.lapd_interface_laws.specs.Addressed.{those_for};
-ghost use Rattle.lapd_interface.specs.Interface.{Configs, Interface, Move, fresh_link, new_interface, from_here, run};
-ghost use Rattle.lapd_interface_laws.specs.Primitives.{link_primitives, AreExpectedOfLink};
-ghost use Rattle.lapd_interface_laws.specs.Projects.{IsReceivedByNetwork};
-ghost use Rattle.lapd_interface_laws.specs.Schedule.{configs, call, at_first, unassigned, IsMessage};
+ghost use Rattle.lapd_two_side_laws.specs.Addressed.{those_for};
+ghost use Rattle.lapd_side_events.specs.Interface.{Configs, Interface, Move, fresh_link, new_interface, from_here, run};
+ghost use Rattle.lapd_two_side_laws.specs.Primitives.{link_primitives, AreExpectedOfLink};
+ghost use Rattle.lapd_two_side_laws.specs.Projects.{IsReceivedByNetwork};
+ghost use Rattle.lapd_two_side_laws.specs.Schedule.{configs, call, at_first, unassigned, IsMessage};
 ghost use Rattle.lapd_restart_laws.specs.RestartPremises.{KeepPremises, KeepPremisesAsMade};
 ghost use Rattle.lapd_restart_laws.specs.RestartRuns.{moved, user_restarts, network_restarts, across_both, tei_lost, next_call, with_restart, KeepInPart, command_sent, command_answered, answer_sent, answer_taken, BringsNoCallBack, HasNoAnswer, HasNoCommand, given_up, comes_back, IsQuietForUser};
 ghost use Rattle.lapd_restart_laws.specs.Restarts.{Change, network_after, user_after, run_across};
@@ -45,7 +45,7 @@ ghost use Rattle.lapd_restart_laws.specs.SafeAcross.{IsSafeAcross};
 /// - `as_made`: any link of two newly created sides.
 /// - `from_here`: a link that is new on both sides at some moment of an interface, while no octets
 ///   for it are in transit.
-/// - `without`: a run without restarts is one of `lapd_interface_laws`.
+/// - `without`: a run without restarts is one of `lapd_two_side_laws`.
 pub fn each_link_is_safe_across_restarts()
     ensures as_made { (c : Configs) (id : LinkId) (fixed : Option ℕ) (known : List ℕ)
         (random : Lcg) → id.tei < 127

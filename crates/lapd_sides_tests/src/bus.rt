@@ -4,7 +4,7 @@ use crate::shows::{put_assigner, put_tei_outs, put_terminal};
 use crate::stage::Stage;
 use crate::text::{number_of, numbers_of, put_refused};
 use lapd_tei::{Bus, BusMove, Tei};
-use lapd_testing::{Text, split};
+use lapd_test_text::{Text, split};
 use std::alloc::{AllocError, Global};
 
 /// The move that these words describe: its name, then the message, the terminal and the reference

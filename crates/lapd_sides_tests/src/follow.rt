@@ -8,7 +8,7 @@ use crate::text::put_refused;
 use lapd_link::{Out, Outs};
 use lapd_pair::{Move, Pair, PairFault};
 use lapd_sides::Side;
-use lapd_testing::{Draws, Text};
+use lapd_test_text::{Draws, Text};
 use std::alloc::{AllocError, Global};
 use std::test::Fail;
 

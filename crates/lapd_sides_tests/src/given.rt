@@ -5,7 +5,7 @@ use crate::talk::Talk;
 use lapd_frame::Side;
 use lapd_sides::Acts;
 use lapd_tei::{Assigner, AssignerEvent, Tei, TeiKind, TeiMessage, TeiOut};
-use lapd_testing::Text;
+use lapd_test_text::Text;
 use rand_core::{Rng, SeedableRng};
 use rand_pcg::Pcg32;
 

@@ -5,7 +5,7 @@ use crate::digest::{with_octets, with_side};
 use crate::talk::{side_of, tei};
 use arrayvec::ArrayVec;
 use lapd_sides::{Acts, EitherSide, LinkId, Primitive, QueuedSide, Request, Sapi};
-use lapd_testing::{Draws, Text};
+use lapd_test_text::{Draws, Text};
 use std::alloc::{AllocError, Global};
 use std::test::Fail;
 

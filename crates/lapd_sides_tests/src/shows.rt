@@ -4,7 +4,7 @@ use crate::talk::link_of;
 use lapd_link::{Link, Out};
 use lapd_sides::{Assigner, EitherSide, LinkId, Tei, Terminal};
 use lapd_tei::{TeiKind, TeiMessage, TeiOut};
-use lapd_testing::Text;
+use lapd_test_text::Text;
 use lapd_timers::{Timer, TimerSet};
 
 /// The name of a kind.

@@ -17,7 +17,7 @@ use crate::tei::{step_of_assigner, step_of_messages, step_of_terminal, step_of_t
 use lapd_sides::{Assigner, Side, Terminal};
 use lapd_table::LinkTable;
 use lapd_tei::Bus;
-use lapd_testing::{Text, split};
+use lapd_test_text::{Text, split};
 use lapd_timers::{Durations, TimerSet};
 use std::alloc::{AllocError, Global};
 use std::test::Fail;

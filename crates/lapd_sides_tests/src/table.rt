@@ -9,7 +9,7 @@ use crate::text::put_refused;
 use lapd_frame::{Frame, MOST_OCTETS, Sapi, Side};
 use lapd_link::{Event, Link, Out, Params};
 use lapd_table::{LinkId, LinkTable, TableFault};
-use lapd_testing::{Text, split};
+use lapd_test_text::{Text, split};
 use std::alloc::Global;
 
 /// Whether a link can have this id: neither management nor the group TEI.

@@ -9,7 +9,7 @@ use lapd_sides::{
     Acts, Config, Durations, EitherSide, LinkId, NetSide, Params, Request, Sapi, SideFault, Tei,
     UserSide,
 };
-use lapd_testing::{Text, split};
+use lapd_test_text::{Text, split};
 use std::alloc::{AllocError, Global};
 
 /// A side, and the results of its last call.

@@ -7,7 +7,7 @@ use crate::talk::{octets_of, tei};
 use crate::text::{number_of, numbers_of};
 use lapd_frame::Side;
 use lapd_tei::{Assigner, AssignerEvent, Tei, TeiKind, TeiMessage, Terminal, TerminalEvent};
-use lapd_testing::{Text, split};
+use lapd_test_text::{Text, split};
 use lapd_timers::{Durations, Timer, TimerSet};
 use std::alloc::Global;
 

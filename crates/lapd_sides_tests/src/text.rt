@@ -1,6 +1,6 @@
 //! Builds text piece by piece, and splits words.
 
-use lapd_testing::{Text, split};
+use lapd_test_text::{Text, split};
 use std::fmt::Display;
 
 /// Puts octets behind in hexadecimal digits, and for many that are aa at their end, their number, as in `[261]`.

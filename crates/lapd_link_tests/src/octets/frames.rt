@@ -6,7 +6,7 @@ use lapd_frame::{
     Address, Control, FaultKind, Frame, FrameFault, MOST_OCTETS, N201, Role, Side, one_frame,
     one_spelling, read, read_as_spelled, write,
 };
-use lapd_testing::{Subject, Text, split, wrong_row};
+use lapd_test_text::{Subject, Text, split, wrong_row};
 use lapd_trace::line;
 use std::alloc::Global;
 

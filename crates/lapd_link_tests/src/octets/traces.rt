@@ -2,7 +2,7 @@
 
 use crate::text::number_of;
 use crate::wants::none_is_wrong;
-use lapd_testing::Text;
+use lapd_test_text::Text;
 use lapd_trace::{History, Side, line};
 use std::alloc::{AllocError, Global};
 use std::test::Fail;

@@ -10,7 +10,7 @@ use crate::rows::drawn::events::EventDraws;
 use crate::rows::drawn::plain::Plain;
 use crate::rows::drawn::table::{TABLE, Table};
 use crate::wants::none_is_wrong;
-use lapd_testing::{Text, wrong_row};
+use lapd_test_text::{Text, wrong_row};
 use std::alloc::Global;
 use std::test::Fail;
 

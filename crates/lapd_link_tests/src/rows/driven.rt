@@ -9,7 +9,7 @@ use crate::links::parameters_of;
 use crate::rows::condition_of;
 use lapd_frame::{Frame, FrameFault, MOST_OCTETS, Sapi, Side, Tei, write};
 use lapd_link::{Event, Link, LinkFault, Out, Outs};
-use lapd_testing::{Text, split};
+use lapd_test_text::{Text, split};
 use std::alloc::Global;
 
 /// A link of SAPI 0 and TEI 64 that lines lead on, and the outputs of the last step, a line for each.

@@ -2,7 +2,7 @@
 
 use crate::rows::Driven;
 use crate::text::with_octets;
-use lapd_testing::{Subject, Text, split, wrong_row};
+use lapd_test_text::{Subject, Text, split, wrong_row};
 use std::alloc::Global;
 
 /// Scripts: a line `link side k n200 room` makes a new link, `event | outputs` is an event with its

@@ -1,7 +1,7 @@
 //! Random octets, and the octets that they begin with.
 
 use arrayvec::ArrayVec;
-use lapd_testing::Draws;
+use lapd_test_text::Draws;
 
 /// The maximum number of random octets.
 pub(super) const MOST: usize = 300;

@@ -5,7 +5,7 @@ use crate::hostile::discards::{is_discarded, is_for_management};
 use crate::talk::Talk;
 use lapd_frame::{Frame, MOST_OCTETS, read, write};
 use lapd_sides::{Request, Side};
-use lapd_testing::Text;
+use lapd_test_text::Text;
 use std::alloc::{AllocError, Global};
 use std::test::Fail;
 

@@ -3,7 +3,7 @@ use Rattle.lapd_cli_live.specs.Log.{state_of}
 use Rattle.lapd_cli_live.specs.Sessions.{ObeysAs}
 use Rattle.lapd_cli_live.specs.declared.obeyed.Obeyed.{Obeyed}
 use Rattle.lapd_cli_live.specs.declared.obeyed.Obeyed.TheVariants as obeyed
-use Rattle.lapd_cli_line.specs.declared.outside.Lines.TheVariants.{Ignored}
+use Rattle.lapd_cli_wire.specs.declared.outside.Lines.TheVariants.{Ignored}
 use Rattle.lapd_cli_live.proofs.Sessions.{this_stops}
 use Rattle.lapd_cli_live.proofs.input.do_script_line.Goals as goal
 

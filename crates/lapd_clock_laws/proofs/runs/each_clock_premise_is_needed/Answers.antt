@@ -1,5 +1,5 @@
 use Rattle.std.proofs.Common.{refl}
-use Rattle.lapd_interface_laws.specs.Schedule.{at_first, configs}
+use Rattle.lapd_two_side_laws.specs.Schedule.{at_first, configs}
 use Rattle.lapd_clock_laws.specs.Runs.{hasty_at, hurried_at_first, hurried_configs}
 use Rattle.lapd_clock_laws.proofs.RunsComputed.{at_the_end_is_not_timely, at_the_end_kept, hasty_is_not_right, hurried_in_time, hurried_so, not_first_kept, not_first_so, not_prompt_kept, not_prompt_so, too_early_kept, too_early_so, turned_back_is_not_timely, turned_back_kept}
 use Rattle.lapd_clock_laws.proofs.runs.each_clock_premise_is_needed.Goals as goal

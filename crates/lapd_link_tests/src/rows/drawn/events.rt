@@ -1,7 +1,7 @@
 //! Random events, as lines of the command `answer`.
 
 use crate::rows::drawn::plain::Plain;
-use lapd_testing::{Draws, split};
+use lapd_test_text::{Draws, split};
 
 /// Events `event | then | line`, each drawn as often as the list contains it. `then` is the event
 /// that follows a frame with N(R). [`Plain::put_words`] explains the letters of a line.

@@ -2,7 +2,7 @@
 
 use crate::rows::drawn::table::{FRAMES, PROCEDURES, Table};
 use lapd_link::{Link, Timer};
-use lapd_testing::{Text, split};
+use lapd_test_text::{Text, split};
 
 /// The window of the tested links.
 const K: u8 = 127;

@@ -6,7 +6,7 @@
 //! repeats while a row of it matches.
 
 use crate::rows::drawn::plain::Plain;
-use lapd_testing::{Subject, Text, split};
+use lapd_test_text::{Subject, Text, split};
 use std::alloc::Global;
 
 /// The actions of each procedure.

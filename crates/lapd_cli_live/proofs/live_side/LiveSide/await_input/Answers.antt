@@ -1,5 +1,5 @@
 use Rattle.std.proofs.Common.{None, subst}
-use Rattle.lapd_cli_line.specs.declared.outside.Lines.TheVariants.{Awaited}
+use Rattle.lapd_cli_wire.specs.declared.outside.Lines.TheVariants.{Awaited}
 use Rattle.lapd_cli_live.specs.declared.service.Until.TheVariants as until
 use Rattle.lapd_cli_live.specs.Log.{LiveState, state_of}
 use Rattle.lapd_cli_live.specs.Steps.{IsServed}

@@ -1,5 +1,5 @@
 use Rattle.std.proofs.Common.{ℕ, Option, subst}
-use Rattle.lapd_cli_line.specs.IoEvents.{Adds, received}
+use Rattle.lapd_cli_wire.specs.IoEvents.{Adds, received}
 use Rattle.lapd_cli_live.proofs.Steps.{looked}
 use Rattle.lapd_cli_live.proofs.live_side.LiveSide.receive_one.Goals as goal
 

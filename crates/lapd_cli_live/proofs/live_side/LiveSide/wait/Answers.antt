@@ -1,6 +1,6 @@
 use Rattle.std.proofs.Common.{ℕ, Option, [], ◌∷◌, subst}
 use Rattle.lapd_sides.specs.Either.{side_of}
-use Rattle.lapd_cli_line.specs.IoEvents.{Adds, Waits}
+use Rattle.lapd_cli_wire.specs.IoEvents.{Adds, Waits}
 use Rattle.lapd_cli_live.proofs.Steps.{flushed_and_waited}
 use Rattle.lapd_cli_live.proofs.live_side.LiveSide.wait.Goals as goal
 

@@ -6,8 +6,8 @@ use Rattle.lapd_cli_script.specs.Line.{text_line}
 use Rattle.lapd_cli_side_lines.specs.SideTexts.{frame_text_line}
 use Rattle.lapd_cli_side_lines.specs.declared.line_style.LineStyle.TheVariants.{Text}
 use Rattle.lapd_cli_live_text.specs.Stats.{sent_counted}
-use Rattle.lapd_cli_line.specs.declared.outside.Sending.{Sending}
-use Rattle.lapd_cli_line.specs.declared.outside.Sending.TheVariants as sending
+use Rattle.lapd_cli_wire.specs.declared.outside.Sending.{Sending}
+use Rattle.lapd_cli_wire.specs.declared.outside.Sending.TheVariants as sending
 use Rattle.lapd_cli_live.specs.declared.printer.Printer.{Printer}
 use Rattle.lapd_cli_live.specs.declared.style.Style.{Style}
 use Rattle.lapd_cli_live.specs.Entries.{Sent, Lost, sent_entry, unless_quiet}

@@ -1,7 +1,0 @@
-use Rattle.lapd_cli_line.proofs.SentLater.{round}
-use Rattle.lapd_cli_line.proofs.impaired.Impaired.wait_round.Goals as goal
-
-pub returns-clause-round : goal.returns-clause-round
-returns-clause-round g c =
-    round _ _ _ _ _ _ _ _ _ c.in_ok-woken.ensures.waits c.in_ok-is_over.ensures.delays
-    c.in_ok-is_over.ensures.over

@@ -1,5 +1,0 @@
-use Rattle.lapd_cli_side_laws.proofs.Orders.{printed_together}
-use Rattle.lapd_cli_side_laws.proofs.laws.joined_runs_are_printed.Goals as goal
-
-pub returns : goal.returns
-returns c = printed_together

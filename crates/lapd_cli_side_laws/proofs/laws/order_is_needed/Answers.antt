@@ -1,5 +1,0 @@
-use Rattle.lapd_cli_side_laws.proofs.UnorderedRuns.{wrong_runs}
-use Rattle.lapd_cli_side_laws.proofs.laws.order_is_needed.Goals as goal
-
-pub returns : goal.returns
-returns c = wrong_runs

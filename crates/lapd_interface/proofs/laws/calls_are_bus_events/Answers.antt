@@ -1,5 +1,0 @@
-use Rattle.lapd_interface.proofs.BusCalled.{of_terminal, of_network}
-use Rattle.lapd_interface.proofs.laws.calls_are_bus_events.Goals as goal
-
-pub returns : goal.returns
-returns c = record { terminal = of_terminal; network = of_network }

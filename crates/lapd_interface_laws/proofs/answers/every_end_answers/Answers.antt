@@ -1,5 +1,0 @@
-use Rattle.lapd_interface_laws.proofs.EndAnswers.{request_is_answered}
-use Rattle.lapd_interface_laws.proofs.answers.every_end_answers.Goals as goal
-
-pub returns : goal.returns
-returns c = request_is_answered
