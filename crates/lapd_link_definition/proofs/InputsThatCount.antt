@@ -19,7 +19,7 @@ use Rattle.lapd_link_definition.specs.Counts.{ups, messages_of, accepts}
 use Rattle.lapd_link_definition.specs.End.{End, StepState, begin, unsent, waiting}
 use Rattle.lapd_link_definition.specs.Established.{in_7_and_8, multiple_frame_established}
 use Rattle.lapd_link_definition.specs.Input.{Input, Heard, Faulty, Expiry, Establish, Release, BusyOn, BusyOff, UnitData, Give}
-use Rattle.lapd_link_definition.specs.Procedures.{out_where, response_of, put, state_to, rc_to, increment_rc, layer3_initiated_to, release_pending_to, start, stop, expired, clear_exception_conditions, zero_state_variables, set_peer_busy, set_own_busy, enquiry_response, transmit_enquiry, transmit_rr, queue_up, discard_i_queue, acknowledge, invoke_retransmission, discard_unacknowledged, i_frame_ns, transmit_i_frame, ensure_t200}
+use Rattle.lapd_link_definition.specs.Procedures.{out_where, response_of, put, state_to, rc_to, release_pending_to, start, stop, zero_state_variables, transmit_rr, queue_up, discard_unacknowledged, i_frame_ns, transmit_i_frame, ensure_t200}
 use Rattle.lapd_link_definition.specs.Refusal.{refused, give_refused}
 use Rattle.lapd_link_definition.specs.SentFrames.{AreWellFormed}
 use Rattle.lapd_link_definition.specs.Table.{by_state, row, step}
@@ -27,6 +27,7 @@ use Rattle.lapd_link_definition.specs.TeiAssigned.{tei_assigned}
 use Rattle.lapd_link_definition.specs.TimerRecovery.{timer_recovery}
 use Rattle.lapd_link_definition.proofs.PreservedByStep.{AreQuiet, response_is_quiet, IsKept, preserved, is_give, preserved_by_row, preserved_by_step, closed, taken}
 use Rattle.lapd_link_definition.proofs.EachAction.{i_frame_numbered, i_frame_in_recovery}
+use Rattle.lapd_link_definition.proofs.ComputedStep.{each_action}
 
 -- ---- An establishment begins.
 
@@ -62,11 +63,7 @@ ua_begins s stays = other_begins s.end s.end.release_pending _ _ stays
 
 begun_4 : (input : Input) (s : StepState) → begins TeiAssigned s.end.release_pending input ≡ true
     → HasBegun s.end (tei_assigned input s).end
-unfolding tei_assigned put state_to rc_to increment_rc layer3_initiated_to release_pending_to start
-    stop expired clear_exception_conditions zero_state_variables set_peer_busy set_own_busy
-    enquiry_response transmit_enquiry transmit_rr queue_up discard_i_queue acknowledge
-    invoke_retransmission discard_unacknowledged i_frame_ns transmit_i_frame ensure_t200
-    with_zero_counters
+unfolding each_action tei_assigned with_zero_counters
 begun_4 (Heard (Sabme p) Command) s h =
     record { counted = refl; established = refl; none_acknowledged = refl; none_received = refl }
 begun_4 (Heard (Disc p) Command) s h = cc
@@ -83,11 +80,7 @@ begun_5 input s h = cc
 
 begun_7_and_8 : (p : Bool) (s : StepState)
     → HasBegun s.end (in_7_and_8 (Heard (Sabme p) Command) s).end
-unfolding in_7_and_8 put state_to rc_to increment_rc layer3_initiated_to release_pending_to start
-    stop expired clear_exception_conditions zero_state_variables set_peer_busy set_own_busy
-    enquiry_response transmit_enquiry transmit_rr queue_up discard_i_queue acknowledge
-    invoke_retransmission discard_unacknowledged i_frame_ns transmit_i_frame ensure_t200
-    with_zero_counters
+unfolding each_action in_7_and_8 with_zero_counters
 begun_7_and_8 p s =
     record { counted = refl; established = refl; none_acknowledged = refl; none_received = refl }
 

@@ -1,4 +1,5 @@
 pub mod ActionsOnTags
+pub mod ComputedStep
 pub mod DueOnTags
 pub mod EachAction
 pub mod InputsThatCount
@@ -19,4 +20,3 @@ pub mod TimersOfOuts
 pub mod TimersOfStep
 pub mod TimersOfWholeStep
 pub mod UnitsOfStep
-pub mod WorkedRows

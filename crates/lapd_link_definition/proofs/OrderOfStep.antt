@@ -13,12 +13,13 @@ use Rattle.lapd_link_definition.specs.End.{End, StepState, begin, waiting, runs}
 use Rattle.lapd_link_definition.specs.Input.{Input, Expiry}
 use Rattle.lapd_link_definition.specs.declared.state.State.{State}
 use Rattle.lapd_link_definition.specs.declared.state.State.TheVariants.{MultipleFrameEstablished}
-use Rattle.lapd_link_definition.specs.Procedures.{retransmit_last_i_frame, out_where, counted, response_of, put, state_to, rc_to, increment_rc, layer3_initiated_to, release_pending_to, start, stop, expired, clear_exception_conditions, zero_state_variables, set_peer_busy, set_own_busy, enquiry_response, transmit_enquiry, transmit_rr, queue_up, discard_i_queue, acknowledge, invoke_retransmission, discard_unacknowledged, i_frame_ns, transmit_i_frame, ensure_t200}
+use Rattle.lapd_link_definition.specs.Procedures.{out_where, counted, response_of}
 use Rattle.lapd_link_definition.specs.Refusal.{refused}
 use Rattle.lapd_link_definition.specs.Table.{row, step}
 use Rattle.lapd_link_definition.proofs.EachAction.{IsPut, PreservedByActions, row_preserves, close_preserves}
 use Rattle.lapd_link_definition.proofs.PreservedByStep.{taken}
 use Rattle.lapd_link_definition.proofs.PlacesOfStep.{leaving_both}
+use Rattle.lapd_link_definition.proofs.ComputedStep.{each_action}
 
 pub placed_both : (waiting : ℕ) (xs ys : List Out) → ArePlaced waiting xs → ArePlaced waiting ys
     → ArePlaced waiting (xs ++ ys)
@@ -118,11 +119,7 @@ orders : (r : Reading) (silence : Bool)
     → PreservedByActions r (λ timer s. Unit {0}) (λ s. IsSilent s.outs)
     (λ s. IsInOrder silence s.outs) (λ message. Unit {0}) (Unit {0}) (Unit {0}) (Unit {0})
     (silence ≡ false) (λ nr. Unit {0})
-unfolding put retransmit_last_i_frame state_to rc_to increment_rc layer3_initiated_to
-    release_pending_to start stop expired clear_exception_conditions zero_state_variables
-    set_peer_busy set_own_busy enquiry_response transmit_enquiry transmit_rr queue_up
-    discard_i_queue acknowledge invoke_retransmission discard_unacknowledged i_frame_ns
-    transmit_i_frame ensure_t200
+unfolding each_action
 orders r silence = record {
   puts = λ out s ok h. silent (out ∷ []) (put_sends_none out ok) h;
   unit_ups = λ s u h. silent (UnitUp ∷ []) (tt, tt) h;

@@ -14,11 +14,12 @@ use Rattle.lapd_link_definition.specs.EndOfStep.{end_step}
 use Rattle.lapd_link_definition.specs.Counts.{leaving}
 use Rattle.lapd_link_definition.specs.End.{End, StepState, begin, waiting, runs, with_timer}
 use Rattle.lapd_link_definition.specs.Input.{Input}
-use Rattle.lapd_link_definition.specs.Procedures.{retransmit_last_i_frame, out_where, counted, response_of, put, state_to, rc_to, increment_rc, layer3_initiated_to, release_pending_to, start, stop, expired, clear_exception_conditions, zero_state_variables, set_peer_busy, set_own_busy, enquiry_response, transmit_enquiry, transmit_rr, queue_up, discard_i_queue, acknowledge, invoke_retransmission, discard_unacknowledged, i_frame_ns, transmit_i_frame, ensure_t200}
+use Rattle.lapd_link_definition.specs.Procedures.{out_where, counted, response_of, start}
 use Rattle.lapd_link_definition.specs.Refusal.{refused}
 use Rattle.lapd_link_definition.specs.Table.{row, step}
 use Rattle.lapd_link_definition.proofs.EachAction.{IsPut, PreservedByActions, row_preserves, close_preserves}
 use Rattle.lapd_link_definition.proofs.PreservedByStep.{taken}
+use Rattle.lapd_link_definition.proofs.ComputedStep.{each_action}
 
 pub leaving_both : (xs ys : List Out) → leaving (xs ++ ys) ≡ leaving xs + leaving ys
 leaving_both [] ys = omega arith
@@ -126,11 +127,7 @@ module _ (r : Reading) (from : ℕ) where
 
   pub places : PreservedByActions r (λ timer s. Unit {0}) Before Then (λ message. Unit {0})
       (Unit {0}) (Unit {0}) (Unit {0}) (Unit {0}) (λ nr. Unit {0})
-  unfolding put retransmit_last_i_frame state_to rc_to increment_rc layer3_initiated_to
-      release_pending_to start stop expired clear_exception_conditions zero_state_variables
-      set_peer_busy set_own_busy enquiry_response transmit_enquiry transmit_rr queue_up
-      discard_i_queue acknowledge invoke_retransmission discard_unacknowledged i_frame_ns
-      transmit_i_frame ensure_t200
+  unfolding each_action
   places = record {
     puts = λ out s ok h. placed (out ∷ []) (put_leaves_none out ok) h;
     unit_ups = λ s u h. placed (UnitUp ∷ []) refl h;

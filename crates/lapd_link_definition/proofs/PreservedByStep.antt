@@ -23,11 +23,12 @@ use Rattle.lapd_link_definition.specs.Counts.{ups}
 use Rattle.lapd_link_definition.specs.End.{End, StepState, begin, waiting, runs, with_timer}
 use Rattle.lapd_link_definition.specs.Input.{Input, Heard, Give}
 use Rattle.lapd_link_definition.specs.Parameters.{Parameters}
-use Rattle.lapd_link_definition.specs.Procedures.{retransmit_last_i_frame, out_where, counted, response_of, put, state_to, rc_to, increment_rc, layer3_initiated_to, release_pending_to, start, stop, expired, clear_exception_conditions, zero_state_variables, set_peer_busy, set_own_busy, enquiry_response, transmit_enquiry, transmit_rr, queue_up, discard_i_queue, acknowledge, invoke_retransmission, discard_unacknowledged, i_frame_ns, transmit_i_frame, ensure_t200}
+use Rattle.lapd_link_definition.specs.Procedures.{out_where, counted, response_of}
 use Rattle.lapd_link_definition.specs.Refusal.{refused}
 use Rattle.lapd_link_definition.specs.SentFrames.{AreWellFormed, AreShort}
 use Rattle.lapd_link_definition.specs.Table.{row, unless, step}
 use Rattle.lapd_link_definition.proofs.EachAction.{IsPut, PreservedByActions, row_preserves, close_preserves}
+use Rattle.lapd_link_definition.proofs.ComputedStep.{each_action}
 
 -- ---- Outputs in the grammar that deliver no message to layer 3.
 
@@ -172,11 +173,7 @@ module _ (r : Reading) (e : End) (n : ℕ) (gives begins takes : Bool) (Fits : T
   pub preserved : PreservedByActions r (λ timer s. Unit {0}) IsKept IsKept
       (λ message. (gives ≡ true) × (Fits → length message ≤ n201)) (begins ≡ true) (takes ≡ true)
       (Unit {0}) (Unit {0}) (λ nr. Unit {0})
-  unfolding put state_to rc_to increment_rc layer3_initiated_to release_pending_to start stop
-      expired clear_exception_conditions zero_state_variables set_peer_busy set_own_busy
-      enquiry_response transmit_enquiry retransmit_last_i_frame transmit_rr queue_up discard_i_queue
-      acknowledge invoke_retransmission discard_unacknowledged i_frame_ns transmit_i_frame
-      ensure_t200
+  unfolding each_action
   preserved = record {
     puts = λ out s ok h. added (out ∷ []) (put_is_quiet out ok) h;
     unit_ups = λ s u h. added (UnitUp ∷ []) ((tt, tt), refl) h;

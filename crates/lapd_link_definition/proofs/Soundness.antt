@@ -6,7 +6,7 @@ use Rattle.lapd_frame.specs.declared.Role.TheVariants.{Command, Answer}
 use Rattle.lapd_frame.specs.declared.Control.TheVariants.{I, Rr, Rnr, Rej, Sabme, Dm, Disc, Ua, Frmr}
 use Rattle.lapd_mod128.specs.Counting.{Reading, Whole, Tagged, reaches}
 use Rattle.lapd_mod128.proofs.Steps.{no_steps}
-use Rattle.lapd_supervision.specs.StateVariables.{is_valid_nr, acknowledges_all, without_exceptions, with_zero_counters, without_ack_pending, after_i_frame, with_va, acknowledged_count, with_vs, after_sending, with_own_busy, with_peer_busy}
+use Rattle.lapd_supervision.specs.StateVariables.{is_valid_nr, acknowledges_all, without_exceptions, with_zero_counters, without_ack_pending, after_i_frame, with_own_busy, with_peer_busy}
 use Rattle.lapd_supervision.proofs.Outstanding.{acknowledged_count_at_most, outstanding_with_va, outstanding_after_sending, outstanding_with_vs, may_send_leaves_room, reaches_with_va, reaches_with_vs, reaches_after_sending}
 use Rattle.lapd_link_definition.specs.declared.state.State.{State}
 use Rattle.lapd_link_definition.specs.declared.state.State.TheVariants.{TeiAssigned, AwaitingEstablishment, AwaitingRelease, MultipleFrameEstablished, TimerRecovery}
@@ -23,12 +23,13 @@ use Rattle.lapd_link_definition.specs.EndOfStep.{send_next, is_7_or_8, is_establ
 use Rattle.lapd_link_definition.specs.End.{End, StepState, ◌▷◌, new_end, unsent, runs, begin}
 use Rattle.lapd_link_definition.specs.Established.{sends_last, established_t200, acknowledge_with_timers, i_frame_nr, poll_or_final, rr_nr, rej_nr, rnr_nr, busy_on, busy_off, in_7_and_8, multiple_frame_established}
 use Rattle.lapd_link_definition.specs.Input.{Input, Heard, Faulty, Expiry, Establish, Release, BusyOn, BusyOff, UnitData, Give}
-use Rattle.lapd_link_definition.specs.Procedures.{retransmit_last_i_frame, put, state_to, rc_to, increment_rc, layer3_initiated_to, release_pending_to, start, stop, expired, clear_exception_conditions, zero_state_variables, set_peer_busy, set_own_busy, enquiry_response, transmit_enquiry, queue_up, discard_i_queue, acknowledge, invoke_retransmission, i_frame_ns, discard_unacknowledged, transmit_i_frame, ensure_t200, transmit_rr, establish_data_link, reestablish_data_link, nr_error_recovery}
+use Rattle.lapd_link_definition.specs.Procedures.{retransmit_last_i_frame, put, state_to, rc_to, increment_rc, layer3_initiated_to, release_pending_to, start, stop, expired, clear_exception_conditions, zero_state_variables, set_peer_busy, set_own_busy, enquiry_response, transmit_enquiry, acknowledge, invoke_retransmission, i_frame_ns, transmit_i_frame, ensure_t200, transmit_rr, establish_data_link, reestablish_data_link, nr_error_recovery}
 use Rattle.lapd_link_definition.specs.Refusal.{refused}
 use Rattle.lapd_link_definition.specs.Sound.{AreOutstanding, AreUnsent, AreAwaiting, IsSoundIn, IsSound}
 use Rattle.lapd_link_definition.specs.Table.{by_state, report_fault, row, step, is_unit_data, unless, fault_letter}
 use Rattle.lapd_link_definition.specs.TeiAssigned.{tei_assigned}
 use Rattle.lapd_link_definition.specs.TimerRecovery.{i_frame_nr_in_recovery, poll, rr_nr_in_recovery, rnr_nr_in_recovery, timer_recovery_t200, timer_recovery, is_final}
+use Rattle.lapd_link_definition.proofs.ComputedStep.{each_change}
 
 abbrev SoundAfter : Reading → StepState → Type 0
 SoundAfter r s = IsSound r s.end
@@ -101,12 +102,7 @@ given_awaiting r false false first next given message va vs h =
 
 sound_tei_assigned : (r : Reading) (h : Input) (s : StepState) → s.end.state ≡ TeiAssigned
     → AreUnsent s.end.first s.end.next (length s.end.given) → SoundAfter r (tei_assigned h s)
-unfolding tei_assigned establish_data_link begin put state_to rc_to increment_rc layer3_initiated_to
-    release_pending_to start stop expired clear_exception_conditions zero_state_variables
-    set_peer_busy set_own_busy enquiry_response transmit_enquiry queue_up discard_i_queue
-    acknowledge invoke_retransmission i_frame_ns discard_unacknowledged transmit_i_frame ensure_t200
-    transmit_rr without_exceptions with_zero_counters without_ack_pending after_i_frame with_va
-    acknowledged_count with_vs after_sending with_own_busy with_peer_busy
+unfolding each_change tei_assigned establish_data_link
 sound_tei_assigned r (Heard (Sabme p) Command) s q h =
     begun r s.end.first s.end.next (length s.end.given) h
 sound_tei_assigned r Establish s q h = dropped (length s.end.given)
@@ -117,23 +113,13 @@ sound_tei_assigned r input s q h = rw q h
 
 sound_release_expired : (r : Reading) (s : StepState) → s.end.state ≡ AwaitingRelease
     → AreUnsent s.end.first s.end.next (length s.end.given) → SoundAfter r (awaiting_release_t200 s)
-unfolding awaiting_release_t200 begin put state_to rc_to increment_rc layer3_initiated_to
-    release_pending_to start stop expired clear_exception_conditions zero_state_variables
-    set_peer_busy set_own_busy enquiry_response transmit_enquiry queue_up discard_i_queue
-    acknowledge invoke_retransmission i_frame_ns discard_unacknowledged transmit_i_frame ensure_t200
-    transmit_rr without_exceptions with_zero_counters without_ack_pending after_i_frame with_va
-    acknowledged_count with_vs after_sending with_own_busy with_peer_busy
+unfolding each_change awaiting_release_t200
 sound_release_expired r s q h =
     either r (nat_lt s.end.rc s.end.parameters.n200) _ _ (λ _. rw q h) (λ _. h)
 
 sound_awaiting_release : (r : Reading) (h : Input) (s : StepState) → s.end.state ≡ AwaitingRelease
     → AreUnsent s.end.first s.end.next (length s.end.given) → SoundAfter r (awaiting_release h s)
-unfolding awaiting_release confirm_release begin put state_to rc_to increment_rc layer3_initiated_to
-    release_pending_to start stop expired clear_exception_conditions zero_state_variables
-    set_peer_busy set_own_busy enquiry_response transmit_enquiry queue_up discard_i_queue
-    acknowledge invoke_retransmission i_frame_ns discard_unacknowledged transmit_i_frame ensure_t200
-    transmit_rr without_exceptions with_zero_counters without_ack_pending after_i_frame with_va
-    acknowledged_count with_vs after_sending with_own_busy with_peer_busy
+unfolding each_change awaiting_release confirm_release
 sound_awaiting_release r (Heard (Dm true) Answer) s q h = h
 sound_awaiting_release r (Heard (Ua true) Answer) s q h = h
 sound_awaiting_release r (Expiry T200) s q h = sound_release_expired r s q h
@@ -173,12 +159,7 @@ NothingSent s = AreUnsent s.end.first s.end.next (length s.end.given)
 confirmed : (r : Reading) (s : StepState) → s.end.release_pending ≡ false
     → AreAwaiting r s.end.layer3_initiated s.end.release_pending s.end.first s.end.next
     (length s.end.given) s.end.window.va s.end.window.vs → NothingSent (confirm_or_indicate s)
-unfolding confirm_or_indicate begin put state_to rc_to increment_rc layer3_initiated_to
-    release_pending_to start stop expired clear_exception_conditions zero_state_variables
-    set_peer_busy set_own_busy enquiry_response transmit_enquiry queue_up discard_i_queue
-    acknowledge invoke_retransmission i_frame_ns discard_unacknowledged transmit_i_frame ensure_t200
-    transmit_rr without_exceptions with_zero_counters without_ack_pending after_i_frame with_va
-    acknowledged_count with_vs after_sending with_own_busy with_peer_busy
+unfolding each_change confirm_or_indicate
 confirmed r s q h =
     let A : Bool → Bool → Type 0 =
     λ asked leaving. AreAwaiting r asked leaving s.end.first s.end.next (length s.end.given)
@@ -205,13 +186,7 @@ expired_awaiting : (r : Reading) (s : StepState) → s.end.state ≡ AwaitingEst
     → AreAwaiting r s.end.layer3_initiated s.end.release_pending s.end.first s.end.next
     (length s.end.given) s.end.window.va s.end.window.vs
     → SoundAfter r (awaiting_establishment_t200 s)
-unfolding awaiting_establishment_t200 end_establishment begin put state_to rc_to increment_rc
-    layer3_initiated_to release_pending_to start stop expired clear_exception_conditions
-    zero_state_variables set_peer_busy set_own_busy enquiry_response transmit_enquiry queue_up
-    discard_i_queue acknowledge invoke_retransmission i_frame_ns discard_unacknowledged
-    transmit_i_frame ensure_t200 transmit_rr without_exceptions with_zero_counters
-    without_ack_pending after_i_frame with_va acknowledged_count with_vs after_sending with_own_busy
-    with_peer_busy
+unfolding each_change awaiting_establishment_t200 end_establishment
 expired_awaiting r s q h =
     either r (nat_lt s.end.rc s.end.parameters.n200) _ _ (λ _. rw q h)
     (λ _. dropped (length s.end.given))
@@ -221,13 +196,7 @@ sound_awaiting_establishment : (r : Reading) (h : Input) (s : StepState)
     → AreAwaiting r s.end.layer3_initiated s.end.release_pending s.end.first s.end.next
     (length s.end.given) s.end.window.va s.end.window.vs
     → SoundAfter r (awaiting_establishment h s)
-unfolding awaiting_establishment end_establishment begin put state_to rc_to increment_rc
-    layer3_initiated_to release_pending_to start stop expired clear_exception_conditions
-    zero_state_variables set_peer_busy set_own_busy enquiry_response transmit_enquiry queue_up
-    discard_i_queue acknowledge invoke_retransmission i_frame_ns discard_unacknowledged
-    transmit_i_frame ensure_t200 transmit_rr without_exceptions with_zero_counters
-    without_ack_pending after_i_frame with_va acknowledged_count with_vs after_sending with_own_busy
-    with_peer_busy
+unfolding each_change awaiting_establishment end_establishment
 sound_awaiting_establishment r (Heard (Dm true) Answer) s q h = dropped (length s.end.given)
 sound_awaiting_establishment r (Heard (Ua true) Answer) s q h = answered_awaiting r s h
 sound_awaiting_establishment r (Expiry T200) s q h = expired_awaiting r s q h
@@ -398,12 +367,7 @@ busy_off_is_sound r s o =
 sound_in_7_and_8 : (r : Reading) (h : Input) (s : StepState) → is_7_or_8 s.end.state ≡ true
     → AreOutstanding r s.end.first s.end.next (length s.end.given) s.end.window.va s.end.window.vs
     → SoundAfter r (in_7_and_8 h s)
-unfolding in_7_and_8 establish_data_link begin put state_to rc_to increment_rc layer3_initiated_to
-    release_pending_to start stop expired clear_exception_conditions zero_state_variables
-    set_peer_busy set_own_busy enquiry_response transmit_enquiry queue_up discard_i_queue
-    acknowledge invoke_retransmission i_frame_ns discard_unacknowledged transmit_i_frame ensure_t200
-    transmit_rr without_exceptions with_zero_counters without_ack_pending after_i_frame with_va
-    acknowledged_count with_vs after_sending with_own_busy with_peer_busy
+unfolding each_change in_7_and_8 establish_data_link
 sound_in_7_and_8 r (Heard (Sabme p) Command) s q h =
     begun r _ _ _
     (lost r s.end.first s.end.next (length s.end.given) s.end.window.va s.end.window.vs _ refl h)

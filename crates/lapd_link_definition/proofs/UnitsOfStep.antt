@@ -12,11 +12,12 @@ use Rattle.lapd_link_definition.specs.EndOfStep.{end_step}
 use Rattle.lapd_link_definition.specs.Counts.{unit_ups, receives_unit}
 use Rattle.lapd_link_definition.specs.End.{End, StepState, begin, waiting, runs}
 use Rattle.lapd_link_definition.specs.Input.{Input, Heard, Faulty, Expiry, Establish, Release, BusyOn, BusyOff, UnitData, Give}
-use Rattle.lapd_link_definition.specs.Procedures.{retransmit_last_i_frame, out_where, counted, response_of, put, state_to, rc_to, increment_rc, layer3_initiated_to, release_pending_to, start, stop, expired, clear_exception_conditions, zero_state_variables, set_peer_busy, set_own_busy, enquiry_response, transmit_enquiry, transmit_rr, queue_up, discard_i_queue, acknowledge, invoke_retransmission, discard_unacknowledged, i_frame_ns, transmit_i_frame, ensure_t200}
+use Rattle.lapd_link_definition.specs.Procedures.{out_where, counted, response_of, put}
 use Rattle.lapd_link_definition.specs.Refusal.{refused}
 use Rattle.lapd_link_definition.specs.Table.{is_unit_data, row, step}
 use Rattle.lapd_link_definition.proofs.EachAction.{IsPut, PreservedByActions, row_preserves, close_preserves}
 use Rattle.lapd_link_definition.proofs.PreservedByStep.{taken}
+use Rattle.lapd_link_definition.proofs.ComputedStep.{each_action}
 
 units_both : (xs ys : List Out) → unit_ups (xs ++ ys) ≡ unit_ups xs + unit_ups ys
 units_both [] ys = omega arith
@@ -71,11 +72,7 @@ more {outs = outs} added none h =
 units : (r : Reading) (n : ℕ)
     → PreservedByActions r (λ timer s. Unit {0}) (λ s. AreUnits n s.outs) (λ s. AreUnits n s.outs)
     (λ message. Unit {0}) (Unit {0}) (Unit {0}) ⊥ (Unit {0}) (λ nr. Unit {0})
-unfolding put retransmit_last_i_frame state_to rc_to increment_rc layer3_initiated_to
-    release_pending_to start stop expired clear_exception_conditions zero_state_variables
-    set_peer_busy set_own_busy enquiry_response transmit_enquiry transmit_rr queue_up
-    discard_i_queue acknowledge invoke_retransmission discard_unacknowledged i_frame_ns
-    transmit_i_frame ensure_t200
+unfolding each_action
 units r n = record {
   puts = λ out s ok h. more (out ∷ []) (put_is_none out ok) h;
   unit_ups = λ s u h. absurd u;
