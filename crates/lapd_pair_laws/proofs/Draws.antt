@@ -2,7 +2,7 @@
 use Rattle.std.proofs.Common.{◌≡◌, ◌⊎◌, inl, inr, ℕ, ◌+◌, ◌-◌, ◌<◌, ◌≤◌, if◌then◌else◌, Bool, true, false, List, [], ◌∷◌, ◌++◌, length-append, Some, None, refl, sym, ap, subst, ◌∙◌, arith}
 use Rattle.lapd_frame.specs.declared.Role.TheVariants.{Answer}
 use Rattle.lapd_frame.specs.declared.Control.{Control}
-use Rattle.lapd_frame.specs.declared.Control.TheVariants.{I, Rr, Rnr, Rej}
+use Rattle.lapd_frame.specs.declared.Control.TheVariants.{I, Rr, Rej}
 use Rattle.lapd_mod128.specs.Counting.{Whole, after}
 use Rattle.lapd_supervision.specs.StateVariables.{StateVariables, status_frame, poll_response, without_ack_pending}
 use Rattle.lapd_supervision.proofs.Receiving.{received_in_sequence, received_out_of_sequence, received_while_rejecting}
@@ -152,11 +152,6 @@ module _ (base its_base place : ℕ) (octets : List ℕ) (view : View) (peer : S
   ready_status : (w : StateVariables) → w.own_busy ≡ false → is_ready (status_frame true w) ≡ true
   unfolding status_frame
   ready_status w free = rw free refl
-
-  final_of_poll : (w : StateVariables)
-      → status_frame true w ≡ (if w.own_busy then Rnr w.vr true else Rr w.vr true)
-  unfolding status_frame
-  final_of_poll w = refl
 
   draws_taken : (ns : ℕ) (p : Bool) (nr : ℕ) (ks : List Kind) (n : ℕ) (s : StepState)
       → s.end.window.ack_pending ≡ false → ns ≡ s.end.window.vr

@@ -1,3 +1,4 @@
+pub mod ComputedRun
 pub mod Consistency
 pub mod Places
 pub mod Safety

@@ -3,7 +3,6 @@ use Rattle.std.proofs.Common.{◌≡◌, ◌⊎◌, inl, inr, ℕ, ◌+◌, ◌<
 use Rattle.std.proofs.lemmas.Option.{slice_get_within}
 use Rattle.lapd_pair_laws.specs.Histories.{Receipt}
 use Rattle.lapd_pair_laws.specs.Conjuncts.{high_from, era_from, HasPlace, AreGiven, IsRow}
-use Rattle.lapd_pair_laws.proofs.Lists.{get_more}
 
 pub high_more : (low : ℕ) (rs : List Receipt) (r : Receipt)
     → high_from low (rs ++ r ∷ []) ≡ r.place + 1
@@ -64,13 +63,6 @@ pub given_more : (given : List (List ℕ)) (rs : List Receipt) (r : Receipt) →
     → slice_get given r.place ≡ Some r.octets → AreGiven given (rs ++ r ∷ [])
 given_more given [] r are is = (is, tt)
 given_more given (s ∷ rs) r are is = (are.0, given_more given rs r are.1 is)
-
--- if another message is submitted
-pub given_grows : (given : List (List ℕ)) (message : List ℕ) (rs : List Receipt) → AreGiven given rs
-    → AreGiven (given ++ message ∷ []) rs
-given_grows given message [] are = tt
-given_grows given message (s ∷ rs) are =
-    (get_more given (message ∷ []) s.place s.octets are.0, given_grows given message rs are.1)
 
 -- all places received are places of submitted messages
 pub high_given : (low : ℕ) (given : List (List ℕ)) (rs : List Receipt) → low ≤ length given

@@ -1,13 +1,11 @@
 -- The two sides are alike: a move of the network equals that of the user with the sides exchanged
 -- before and after.
-use Rattle.std.proofs.Common.{◌≡◌, ℕ, Option, Some, None, Result, Ok, Err, Bool, true, false, List, [], ◌∷◌, ◌++◌, if◌then◌else◌, refl}
+use Rattle.std.proofs.Common.{◌≡◌, ℕ, Option, Some, None, Result, Ok, Err, Bool, true, false, [], ◌∷◌, ◌++◌, if◌then◌else◌, refl}
 use Rattle.lapd_timers.specs.declared.timer.Timer.TheVariants.{T200}
 use Rattle.lapd_frame.specs.declared.Side.{Side}
 use Rattle.lapd_frame.specs.declared.Side.TheVariants as side
 use Rattle.lapd_mod128.specs.Counting.{Reading}
-use Rattle.lapd_link_definition.specs.declared.out.Out.{Out}
 use Rattle.lapd_link_definition.specs.Input as input
-use Rattle.lapd_pair_laws.specs.Histories.{Occasion, Story, after_output, after_outputs}
 use Rattle.lapd_pair_laws.specs.Line.{first_poll, first_final}
 use Rattle.lapd_pair_laws.specs.Move.{PairEvent, Expire200, View, ViewStep, Refusal, unless_under_way, takes, expires_200, acts}
 use Rattle.lapd_pair_laws.specs.World.{World, swapped, view_of, with_view, in_world, world_after, happens}
@@ -71,9 +69,3 @@ network_alike r event w =
     ≡ view_left (view_of side.Network w) (acts r side.User event (view_of side.Network w))
     = acts_alike r event (view_of side.Network w) in
     rw (here, there, alike) refl
-
--- outputs may be recorded in two parts
-pub after_outputs_append : (o : Occasion) (xs ys : List Out) (t : Story)
-    → after_outputs o (xs ++ ys) t ≡ after_outputs o ys (after_outputs o xs t)
-after_outputs_append o [] ys t = refl
-after_outputs_append o (out ∷ xs) ys t = after_outputs_append o xs ys (after_output o out t)

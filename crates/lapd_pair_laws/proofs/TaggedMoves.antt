@@ -312,17 +312,6 @@ pub move_near : (move : Move) (w : World) → IsConsistentWorld Whole w → AreF
 move_near move w preserved within =
     event_is_near move.event (view_of move.side w) (incoming_near move.side w preserved within)
 
--- all moves are near if a predicate holds at the start that implies nearness and that each move
--- keeps
-pub near_by_invariant : (Inv : World → Type 0)
-    → ((w : World) → Inv w → (move : Move)
-    → IsNearMove move w × Inv (world_after w (happens Whole move w)))
-    → (moves : List Move) (w : World) → Inv w → AreNearMoves moves w
-near_by_invariant Inv preserves [] w inv = tt
-near_by_invariant Inv preserves (move ∷ moves) w inv =
-    let now = preserves w inv move in
-    (now.0, near_by_invariant Inv preserves moves (world_after w (happens Whole move w)) now.1)
-
 -- ---- The histories.
 
 pub safe_on_tags : (w : World) → AreSafe (tag_world w) ↔ AreSafe w

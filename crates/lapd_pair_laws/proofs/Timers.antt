@@ -5,7 +5,7 @@ use Rattle.lapd_timers.specs.declared.timer.Timer.TheVariants.{T200, T203}
 use Rattle.lapd_frame.specs.declared.Role.TheVariants.{Command, Answer}
 use Rattle.lapd_frame.specs.declared.Control.TheVariants.{I, Rr, Rnr, Rej, Sabme, Dm, Disc, Ua, Frmr}
 use Rattle.lapd_mod128.specs.Counting.{Whole}
-use Rattle.lapd_supervision.specs.StateVariables.{is_valid_nr, acknowledges_all, without_exceptions, with_zero_counters, without_ack_pending, after_i_frame, with_va, acknowledged_count, with_vs, after_sending, with_own_busy, with_peer_busy}
+use Rattle.lapd_supervision.specs.StateVariables.{is_valid_nr, acknowledges_all, without_exceptions, with_zero_counters, without_ack_pending, after_i_frame, with_va, with_vs, with_peer_busy}
 use Rattle.lapd_link_definition.specs.declared.state.State.{State}
 use Rattle.lapd_link_definition.specs.declared.state.State.TheVariants.{TeiAssigned, AwaitingEstablishment, AwaitingRelease, MultipleFrameEstablished, TimerRecovery}
 use Rattle.lapd_frame.specs.declared.fault_kind.FaultKind.{FaultKind}
@@ -17,7 +17,7 @@ use Rattle.lapd_link_definition.specs.EndOfStep.{send_next, is_7_or_8, is_establ
 use Rattle.lapd_link_definition.specs.End.{End, StepState, ◌▷◌, unsent, runs, begin}
 use Rattle.lapd_link_definition.specs.Established.{sends_last, established_t200, acknowledge_with_timers, i_frame_nr, poll_or_final, rr_nr, rej_nr, rnr_nr, busy_on, busy_off, in_7_and_8, multiple_frame_established}
 use Rattle.lapd_link_definition.specs.Input.{Input, Heard, Faulty, Expiry, Establish, Release, BusyOn, BusyOff, UnitData, Give}
-use Rattle.lapd_link_definition.specs.Procedures.{retransmit_last_i_frame, put, state_to, rc_to, increment_rc, layer3_initiated_to, release_pending_to, start, stop, expired, clear_exception_conditions, zero_state_variables, set_peer_busy, set_own_busy, enquiry_response, transmit_enquiry, queue_up, discard_i_queue, acknowledge, invoke_retransmission, i_frame_ns, discard_unacknowledged, transmit_i_frame, ensure_t200, transmit_rr, establish_data_link, reestablish_data_link, nr_error_recovery}
+use Rattle.lapd_link_definition.specs.Procedures.{put, state_to, rc_to, increment_rc, layer3_initiated_to, release_pending_to, start, stop, expired, clear_exception_conditions, zero_state_variables, set_peer_busy, enquiry_response, transmit_enquiry, acknowledge, invoke_retransmission, i_frame_ns, discard_unacknowledged, transmit_i_frame, ensure_t200, transmit_rr, establish_data_link, reestablish_data_link, nr_error_recovery}
 use Rattle.lapd_link_definition.specs.Refusal.{refused}
 use Rattle.lapd_link_definition.specs.Table.{by_state, report_fault, row, step, is_unit_data, fault_letter}
 use Rattle.lapd_link_definition.specs.TeiAssigned.{tei_assigned}
@@ -26,6 +26,7 @@ use Rattle.lapd_link_definition.proofs.PreservedByStep.{taken}
 use Rattle.lapd_link_definition.proofs.Sending.{both_true}
 use Rattle.lapd_pair_laws.proofs.Lists.{by_test}
 use Rattle.lapd_pair_laws.specs.Timed.{IsTimedIn, IsTimed}
+use Rattle.lapd_link_definition.proofs.ComputedStep.{each_change}
 
 abbrev After : StepState → Type 0
 After s = IsTimed s.end
@@ -33,12 +34,7 @@ After s = IsTimed s.end
 -- ---- States 4, 5 and 6.
 
 timed_4 : (h : Input) (s : StepState) → s.end.state ≡ TeiAssigned → After (tei_assigned h s)
-unfolding tei_assigned establish_data_link begin put state_to rc_to increment_rc layer3_initiated_to
-    release_pending_to start stop expired clear_exception_conditions zero_state_variables
-    set_peer_busy set_own_busy enquiry_response transmit_enquiry queue_up discard_i_queue
-    acknowledge invoke_retransmission i_frame_ns discard_unacknowledged transmit_i_frame ensure_t200
-    transmit_rr without_exceptions with_zero_counters without_ack_pending after_i_frame with_va
-    acknowledged_count with_vs after_sending with_own_busy with_peer_busy
+unfolding each_change tei_assigned establish_data_link
 timed_4 (Heard (Sabme p) Command) s q = λ no. (refl, refl)
 timed_4 Establish s q = refl
 timed_4 (Heard (Disc p) Command) s q = rw q tt
@@ -47,22 +43,12 @@ timed_4 Release s q = rw q tt
 timed_4 input s q = rw q tt
 
 timed_6_expired : (s : StepState) → s.end.state ≡ AwaitingRelease → After (awaiting_release_t200 s)
-unfolding awaiting_release_t200 begin put state_to rc_to increment_rc layer3_initiated_to
-    release_pending_to start stop expired clear_exception_conditions zero_state_variables
-    set_peer_busy set_own_busy enquiry_response transmit_enquiry queue_up discard_i_queue
-    acknowledge invoke_retransmission i_frame_ns discard_unacknowledged transmit_i_frame ensure_t200
-    transmit_rr without_exceptions with_zero_counters without_ack_pending after_i_frame with_va
-    acknowledged_count with_vs after_sending with_own_busy with_peer_busy
+unfolding each_change awaiting_release_t200
 timed_6_expired s q =
     by_test After (nat_lt s.end.rc s.end.parameters.n200) _ _ (λ _. rw q tt) (λ _. tt)
 
 timed_6 : (h : Input) (s : StepState) → s.end.state ≡ AwaitingRelease → After (awaiting_release h s)
-unfolding awaiting_release confirm_release begin put state_to rc_to increment_rc layer3_initiated_to
-    release_pending_to start stop expired clear_exception_conditions zero_state_variables
-    set_peer_busy set_own_busy enquiry_response transmit_enquiry queue_up discard_i_queue
-    acknowledge invoke_retransmission i_frame_ns discard_unacknowledged transmit_i_frame ensure_t200
-    transmit_rr without_exceptions with_zero_counters without_ack_pending after_i_frame with_va
-    acknowledged_count with_vs after_sending with_own_busy with_peer_busy
+unfolding each_change awaiting_release confirm_release
 timed_6 (Heard (Dm true) Answer) s q = tt
 timed_6 (Heard (Ua true) Answer) s q = tt
 timed_6 (Expiry T200) s q = timed_6_expired s q
@@ -73,23 +59,12 @@ timed_6 input s q = rw q tt
 
 timed_5_expired : (s : StepState) → s.end.state ≡ AwaitingEstablishment
     → s.end.window.peer_busy ≡ false → After (awaiting_establishment_t200 s)
-unfolding awaiting_establishment_t200 end_establishment begin put state_to rc_to increment_rc
-    layer3_initiated_to release_pending_to start stop expired clear_exception_conditions
-    zero_state_variables set_peer_busy set_own_busy enquiry_response transmit_enquiry queue_up
-    discard_i_queue acknowledge invoke_retransmission i_frame_ns discard_unacknowledged
-    transmit_i_frame ensure_t200 transmit_rr without_exceptions with_zero_counters
-    without_ack_pending after_i_frame with_va acknowledged_count with_vs after_sending with_own_busy
-    with_peer_busy
+unfolding each_change awaiting_establishment_t200 end_establishment
 timed_5_expired s q h =
     by_test After (nat_lt s.end.rc s.end.parameters.n200) _ _ (λ _. rw q h) (λ _. tt)
 
 confirmed : (s : StepState) → (confirm_or_indicate s).end.window.peer_busy ≡ s.end.window.peer_busy
-unfolding confirm_or_indicate begin put state_to rc_to increment_rc layer3_initiated_to
-    release_pending_to start stop expired clear_exception_conditions zero_state_variables
-    set_peer_busy set_own_busy enquiry_response transmit_enquiry queue_up discard_i_queue
-    acknowledge invoke_retransmission i_frame_ns discard_unacknowledged transmit_i_frame ensure_t200
-    transmit_rr without_exceptions with_zero_counters without_ack_pending after_i_frame with_va
-    acknowledged_count with_vs after_sending with_own_busy with_peer_busy
+unfolding each_change confirm_or_indicate
 confirmed s = by_asking s.end.layer3_initiated
   where
     by_asking : (b : Bool)
@@ -107,13 +82,7 @@ answered_5 s h =
 
 timed_5 : (h : Input) (s : StepState) → s.end.state ≡ AwaitingEstablishment
     → s.end.window.peer_busy ≡ false → After (awaiting_establishment h s)
-unfolding awaiting_establishment end_establishment begin put state_to rc_to increment_rc
-    layer3_initiated_to release_pending_to start stop expired clear_exception_conditions
-    zero_state_variables set_peer_busy set_own_busy enquiry_response transmit_enquiry queue_up
-    discard_i_queue acknowledge invoke_retransmission i_frame_ns discard_unacknowledged
-    transmit_i_frame ensure_t200 transmit_rr without_exceptions with_zero_counters
-    without_ack_pending after_i_frame with_va acknowledged_count with_vs after_sending with_own_busy
-    with_peer_busy
+unfolding each_change awaiting_establishment end_establishment
 timed_5 (Heard (Dm true) Answer) s q h = tt
 timed_5 (Heard (Ua true) Answer) s q h = answered_5 s h
 timed_5 (Expiry T200) s q h = timed_5_expired s q h
@@ -178,13 +147,7 @@ timed_rnr_nr nr s q =
 
 timed_both : (h : Input) (s : StepState) → is_7_or_8 s.end.state ≡ true → After s
     → After (in_7_and_8 h s)
-unfolding in_7_and_8 busy_on busy_off establish_data_link begin put state_to rc_to increment_rc
-    layer3_initiated_to release_pending_to start stop expired clear_exception_conditions
-    zero_state_variables set_peer_busy set_own_busy enquiry_response transmit_enquiry queue_up
-    discard_i_queue acknowledge invoke_retransmission i_frame_ns discard_unacknowledged
-    transmit_i_frame ensure_t200 transmit_rr without_exceptions with_zero_counters
-    without_ack_pending after_i_frame with_va acknowledged_count with_vs after_sending with_own_busy
-    with_peer_busy
+unfolding each_change in_7_and_8 busy_on busy_off establish_data_link
 timed_both (Heard (Sabme p) Command) s q h = λ no. (refl, refl)
 timed_both (Heard (Disc p) Command) s q h = tt
 timed_both (Heard (Dm false) Answer) s q h = again (s ▷ put (Report letter.E))
@@ -198,22 +161,12 @@ timed_both (Heard (Ua f) Answer) s q h = h
 timed_both input s q h = h
 
 timed_7_t200 : (s : StepState) → After (established_t200 Whole s)
-unfolding established_t200 begin put state_to rc_to increment_rc layer3_initiated_to
-    release_pending_to start stop expired clear_exception_conditions zero_state_variables
-    set_peer_busy set_own_busy enquiry_response transmit_enquiry queue_up discard_i_queue
-    acknowledge invoke_retransmission i_frame_ns discard_unacknowledged transmit_i_frame ensure_t200
-    transmit_rr without_exceptions with_zero_counters without_ack_pending after_i_frame with_va
-    acknowledged_count with_vs after_sending with_own_busy with_peer_busy retransmit_last_i_frame
+unfolding each_change established_t200
 timed_7_t200 s =
     by_test After (sends_last s.end.parameters.recovery s.end.window) _ _ (λ _. tt) (λ _. tt)
 
 timed_7_t203 : (s : StepState) → After (multiple_frame_established Whole (Expiry T203) s)
-unfolding multiple_frame_established begin put state_to rc_to increment_rc layer3_initiated_to
-    release_pending_to start stop expired clear_exception_conditions zero_state_variables
-    set_peer_busy set_own_busy enquiry_response transmit_enquiry queue_up discard_i_queue
-    acknowledge invoke_retransmission i_frame_ns discard_unacknowledged transmit_i_frame ensure_t200
-    transmit_rr without_exceptions with_zero_counters without_ack_pending after_i_frame with_va
-    acknowledged_count with_vs after_sending with_own_busy with_peer_busy
+unfolding each_change multiple_frame_established
 timed_7_t203 s = tt
 
 -- an end whose state and variables are those of s
@@ -226,13 +179,7 @@ in_state state s q h =
 
 timed_7 : (h : Input) (s : StepState) → s.end.state ≡ MultipleFrameEstablished → In7 s
     → After (multiple_frame_established Whole h s)
-unfolding multiple_frame_established poll_or_final begin put state_to rc_to increment_rc
-    layer3_initiated_to release_pending_to start stop expired clear_exception_conditions
-    zero_state_variables set_peer_busy set_own_busy enquiry_response transmit_enquiry queue_up
-    discard_i_queue acknowledge invoke_retransmission i_frame_ns discard_unacknowledged
-    transmit_i_frame ensure_t200 transmit_rr without_exceptions with_zero_counters
-    without_ack_pending after_i_frame with_va acknowledged_count with_vs after_sending with_own_busy
-    with_peer_busy
+unfolding each_change multiple_frame_established poll_or_final
 timed_7 (Heard (I ns nr p) Command) s q h = timed_i_nr nr (i_frame_ns Whole ns p s) q h
 timed_7 (Heard (Rr nr true) Command) s q h =
     timed_rr_nr nr (enquiry_response (set_peer_busy false s)) q refl (λ no. ((h no).0, refl))
