@@ -12,7 +12,7 @@ use Rattle.lapd_link_definition.specs.End.{End, unsent, begin}
 use Rattle.lapd_link_definition.specs.RunningTimers.{HasTimersOfState}
 use Rattle.lapd_pair_laws.specs.Invariant.{IsInvariant}
 use Rattle.lapd_pair_laws.specs.Line.{Flight}
-use Rattle.lapd_pair_laws.specs.Move.{Deliver, Station, View, acts}
+use Rattle.lapd_pair_laws.specs.Move.{Deliver, Station, acts}
 use Rattle.lapd_pair_laws.specs.Timed.{IsTimedIn, IsSettledEnd, AreSettledEnds}
 use Rattle.lapd_pair_laws.specs.World.{World}
 use Rattle.lapd_pair_laws.proofs.Drains.{Drains}
@@ -33,11 +33,6 @@ module _ (N : ℕ) (some_retries : 1 ≤ N) (up : Bool) where
   module _ (n : ℕ) (x y : Station) where
     abbrev after_sabme : World
     after_sabme = by_network N some_retries up Deliver x y [] (sabme ∷ [])
-
-    abbrev Delivered : End → List Flight → Type 0
-    Delivered e frames =
-        Sees (left_by (seeing y (sabme ∷ []) [])
-        (acts Whole side.User Deliver (seeing y (sabme ∷ []) []))) e [] frames
 
     -- y was in state 4: it has nothing to send
     new_is_up : (e : End) → IsNew e → IsUpWith [] e
@@ -357,10 +352,6 @@ module _ (N : ℕ) (some_retries : 1 ≤ N) (up : Bool) where
       }
 
   -- ---- The UA is delivered to the user in state 5.
-
-  abbrev opened_by : Station → List Flight → View
-  opened_by x rest =
-      left_by (seeing x (ua ∷ rest) []) (acts Whole side.User Deliver (seeing x (ua ∷ rest) []))
 
   is_cleared : (e : End) → AreClear e
       → IsTimedIn e.state e.t200 e.window.vs e.window.va e.window.peer_busy

@@ -98,9 +98,6 @@ record ComesOn (n : ℕ) (now : World) : Type 0 where
   arriving : Coming (n - 1) now
 
 module _ (n : ℕ) (x y : Station) where
-  abbrev Before : List Flight → List Flight → World
-  Before to_user to_network = at x y to_user to_network
-
   -- the world after an event of the user, and after one of the network
   abbrev by_user : PairEvent → List Flight → List Flight → World
   by_user event to_user to_network =

@@ -5,7 +5,7 @@ use Rattle.lapd_link_definition.specs.declared.state.State.{State}
 use Rattle.lapd_link_definition.specs.declared.state.State.TheVariants.{TeiAssigned, AwaitingEstablishment, AwaitingRelease, MultipleFrameEstablished, TimerRecovery}
 use Rattle.lapd_link_definition.specs.EndOfStep.{is_7_or_8}
 use Rattle.lapd_link_definition.specs.End.{End, unsent, waiting}
-use Rattle.lapd_pair_laws.specs.Kinds.{Message, Kind, Numbered, Enquiry, Asks, Accepts, message_of, messages, numbers, rejections, tally, answer_of, is_acceptance}
+use Rattle.lapd_pair_laws.specs.Kinds.{Message, Kind, Numbered, Enquiry, Asks, Accepts, messages, numbers, rejections, tally, answer_of, is_acceptance}
 use Rattle.lapd_pair_laws.specs.Parties.{Reception, behind, behind_acceptance, next_reception, received_in, OnReception}
 use Rattle.lapd_pair_laws.proofs.Flow.{IsWhole, IsJunkThenWhole, IsInTransit, fresh}
 use Rattle.lapd_pair_laws.proofs.Lists.{messages_append, rejections_append, tally_append}
@@ -57,10 +57,6 @@ weight_some k = omega arith
 pub weigh_few : (ks : List Kind) → weigh ks + tally plain_of ks ≤ 2 * length ks
 weigh_few [] = omega arith
 weigh_few (k ∷ ks) = let one = both_few k in let rest = weigh_few ks in omega (arith, one, rest)
-
-pub no_message_plain : (k : Kind) → message_of k ≡ [] → plain_of k ≡ 0
-no_message_plain (Numbered m nr) none = cc
-no_message_plain k none = refl
 
 pub no_number_plain : (ks : List Kind) → numbers ks ≡ [] → tally plain_of ks ≡ 0
 no_number_plain [] none = refl

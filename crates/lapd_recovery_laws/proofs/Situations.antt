@@ -100,11 +100,6 @@ module _ (N : ℕ) where
   abbrev pub polls : End → ℕ
   polls e = polls_in e.state e.t200 (e.parameters.n200 - e.rc)
 
-  again_few : (same : Bool) (u : ℕ) → again_in same u ≤ 2 * N + 3
-  again_few true zero = omega arith
-  again_few true (suc u) = omega arith
-  again_few false u = omega arith
-
   -- ---- Situations. x is the user, y the network.
 
   -- x is open, and y is in state 4, 5 or 6

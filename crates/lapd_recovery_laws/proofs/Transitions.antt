@@ -41,13 +41,6 @@ empty_in e x given next none =
     let same : length x.sends.given ≡ length e.given = ap length given in
     omega (arith, all, same, next)
 
-pub empty_4 : (w : World) → IsInvariant w → w.user.end.state ≡ TeiAssigned
-    → length w.user.end.given ≡ w.user.end.next
-empty_4 w i is =
-    let x = party i.user_base w.user in
-    empty_in w.user.end x refl refl
-    (subst (λ st. IsConsistentSender st x.asked x.leaving x.sends) is i.both.mine.preserved)
-
 pub empty_4_too : (w : World) → IsInvariant w → w.network.end.state ≡ TeiAssigned
     → length w.network.end.given ≡ w.network.end.next
 empty_4_too w i is =

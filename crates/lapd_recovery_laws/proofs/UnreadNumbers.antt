@@ -1,6 +1,6 @@
 -- No row reads V(S), V(A) and V(R) in states 4 and 6, nor in state 5 if layer 3 initiated the
 -- establishment or a release is pending. So both restarts lead to the same outputs.
-use Rattle.std.proofs.Common.{◌≡◌, ◌⊎◌, inl, inr, ℕ, nat_lt, if◌then◌else◌, Bool, true, false, List, [], ◌∷◌, Option, Some, None, Result, Ok, Err, refl, sym, ap, subst, ◌∙◌}
+use Rattle.std.proofs.Common.{◌≡◌, ◌⊎◌, inl, inr, ℕ, zero, nat_lt, if◌then◌else◌, Bool, true, false, List, [], ◌∷◌, Option, Some, None, Result, Ok, Err, refl, sym, ap, subst, ◌∙◌}
 use Rattle.lapd_timers.specs.declared.timer.Timer.TheVariants.{T200, T203}
 use Rattle.lapd_frame.specs.declared.Role.{Role}
 use Rattle.lapd_frame.specs.declared.Role.TheVariants.{Command, Answer}
@@ -25,6 +25,25 @@ use Rattle.lapd_pair_laws.specs.Conjuncts.{is_holding}
 use Rattle.lapd_pair_laws.specs.Move.{restarted}
 use Rattle.lapd_pair_laws.proofs.ClosedActions.{not_established}
 use Rattle.lapd_recovery_laws.specs.QuickRestart.{restarted_keeping, outputs_of, end_after, responses}
+
+-- the words of the rows of states 4, 6 and 5
+rows_of_4 : ℕ
+unfolding row by_state report_fault tei_assigned put state_to rc_to layer3_initiated_to
+    release_pending_to start stop clear_exception_conditions zero_state_variables discard_i_queue
+    establish_data_link without_exceptions with_zero_counters
+rows_of_4 = zero
+
+rows_of_6 : ℕ
+unfolding row by_state report_fault awaiting_release confirm_release awaiting_release_t200 put
+    state_to increment_rc start stop expired
+rows_of_6 = zero
+
+rows_of_5 : ℕ
+unfolding row by_state report_fault awaiting_establishment end_establishment confirm_or_indicate
+    ua_final awaiting_establishment_t200 put state_to rc_to increment_rc layer3_initiated_to
+    release_pending_to start stop expired zero_state_variables queue_up discard_i_queue
+    with_zero_counters
+rows_of_5 = zero
 
 -- the end with other numbers
 abbrev pub with_numbers : ℕ → ℕ → ℕ → End → End
@@ -64,17 +83,13 @@ module _ (vs va vr : ℕ) where
   module _ (r : Reading) (asked leaving : Bool) (e : End) where
     heard_4 : (role : Role) (control : Control)
         → RowAlike r TeiAssigned asked leaving e (Heard control role)
-    unfolding row by_state report_fault tei_assigned put state_to rc_to layer3_initiated_to
-        release_pending_to start stop clear_exception_conditions zero_state_variables
-        discard_i_queue establish_data_link without_exceptions with_zero_counters
+    unfolding rows_of_4
     heard_4 Command (Sabme p) = inr refl
     heard_4 Answer (Ua f) = inl (refl, refl)
     heard_4 role control = inl (refl, refl)
 
     in_4 : (input : Input) → RowAlike r TeiAssigned asked leaving e input
-    unfolding row by_state report_fault tei_assigned put state_to rc_to layer3_initiated_to
-        release_pending_to start stop clear_exception_conditions zero_state_variables
-        discard_i_queue establish_data_link without_exceptions with_zero_counters
+    unfolding rows_of_4
     in_4 (Heard control role) = heard_4 role control
     in_4 (Expiry T200) = alike_if e.t200 _ _ _ _ (inl (refl, refl)) (inl (refl, refl))
     in_4 (Expiry T203) = alike_if e.t203 _ _ _ _ (inl (refl, refl)) (inl (refl, refl))
@@ -82,8 +97,7 @@ module _ (vs va vr : ℕ) where
 
     heard_6 : (role : Role) (control : Control)
         → RowAlike r AwaitingRelease asked leaving e (Heard control role)
-    unfolding row by_state report_fault awaiting_release confirm_release awaiting_release_t200 put
-        state_to increment_rc start stop expired
+    unfolding rows_of_6
     heard_6 Command (Ua true) = inl (refl, refl)
     heard_6 Command (Dm true) = inl (refl, refl)
     heard_6 Answer (Ua true) = inl (refl, refl)
@@ -91,8 +105,7 @@ module _ (vs va vr : ℕ) where
     heard_6 role control = inl (refl, refl)
 
     in_6 : (input : Input) → RowAlike r AwaitingRelease asked leaving e input
-    unfolding row by_state report_fault awaiting_release confirm_release awaiting_release_t200 put
-        state_to increment_rc start stop expired
+    unfolding rows_of_6
     in_6 (Heard control role) = heard_6 role control
     in_6 (Expiry T200) =
         alike_if e.t200 _ _ _ _
@@ -104,10 +117,7 @@ module _ (vs va vr : ℕ) where
   module _ (r : Reading) (e : End) where
     heard_5_asked : (role : Role) (control : Control)
         → RowAlike r AwaitingEstablishment true false e (Heard control role)
-    unfolding row by_state report_fault awaiting_establishment end_establishment confirm_or_indicate
-        ua_final awaiting_establishment_t200 put state_to rc_to increment_rc layer3_initiated_to
-        release_pending_to start stop expired zero_state_variables queue_up discard_i_queue
-        with_zero_counters
+    unfolding rows_of_5
     heard_5_asked Command (Ua true) = inl (refl, refl)
     heard_5_asked Command (Dm true) = inl (refl, refl)
     heard_5_asked Answer (Ua true) = inr refl
@@ -115,10 +125,7 @@ module _ (vs va vr : ℕ) where
     heard_5_asked role control = inl (refl, refl)
 
     in_5_asked : (input : Input) → RowAlike r AwaitingEstablishment true false e input
-    unfolding row by_state report_fault awaiting_establishment end_establishment confirm_or_indicate
-        ua_final awaiting_establishment_t200 put state_to rc_to increment_rc layer3_initiated_to
-        release_pending_to start stop expired zero_state_variables queue_up discard_i_queue
-        with_zero_counters
+    unfolding rows_of_5
     in_5_asked (Heard control role) = heard_5_asked role control
     in_5_asked (Expiry T200) =
         alike_if e.t200 _ _ _ _
@@ -129,10 +136,7 @@ module _ (vs va vr : ℕ) where
 
     heard_5_leaving_asked : (role : Role) (control : Control)
         → RowAlike r AwaitingEstablishment true true e (Heard control role)
-    unfolding row by_state report_fault awaiting_establishment end_establishment confirm_or_indicate
-        ua_final awaiting_establishment_t200 put state_to rc_to increment_rc layer3_initiated_to
-        release_pending_to start stop expired zero_state_variables queue_up discard_i_queue
-        with_zero_counters
+    unfolding rows_of_5
     heard_5_leaving_asked Command (Ua true) = inl (refl, refl)
     heard_5_leaving_asked Command (Dm true) = inl (refl, refl)
     heard_5_leaving_asked Answer (Ua true) = inl (refl, refl)
@@ -140,10 +144,7 @@ module _ (vs va vr : ℕ) where
     heard_5_leaving_asked role control = inl (refl, refl)
 
     in_5_leaving_asked : (input : Input) → RowAlike r AwaitingEstablishment true true e input
-    unfolding row by_state report_fault awaiting_establishment end_establishment confirm_or_indicate
-        ua_final awaiting_establishment_t200 put state_to rc_to increment_rc layer3_initiated_to
-        release_pending_to start stop expired zero_state_variables queue_up discard_i_queue
-        with_zero_counters
+    unfolding rows_of_5
     in_5_leaving_asked (Heard control role) = heard_5_leaving_asked role control
     in_5_leaving_asked (Expiry T200) =
         alike_if e.t200 _ _ _ _
@@ -154,10 +155,7 @@ module _ (vs va vr : ℕ) where
 
     heard_5_leaving_unasked : (role : Role) (control : Control)
         → RowAlike r AwaitingEstablishment false true e (Heard control role)
-    unfolding row by_state report_fault awaiting_establishment end_establishment confirm_or_indicate
-        ua_final awaiting_establishment_t200 put state_to rc_to increment_rc layer3_initiated_to
-        release_pending_to start stop expired zero_state_variables queue_up discard_i_queue
-        with_zero_counters
+    unfolding rows_of_5
     heard_5_leaving_unasked Command (Ua true) = inl (refl, refl)
     heard_5_leaving_unasked Command (Dm true) = inl (refl, refl)
     heard_5_leaving_unasked Answer (Ua true) = inl (refl, refl)
@@ -165,10 +163,7 @@ module _ (vs va vr : ℕ) where
     heard_5_leaving_unasked role control = inl (refl, refl)
 
     in_5_leaving_unasked : (input : Input) → RowAlike r AwaitingEstablishment false true e input
-    unfolding row by_state report_fault awaiting_establishment end_establishment confirm_or_indicate
-        ua_final awaiting_establishment_t200 put state_to rc_to increment_rc layer3_initiated_to
-        release_pending_to start stop expired zero_state_variables queue_up discard_i_queue
-        with_zero_counters
+    unfolding rows_of_5
     in_5_leaving_unasked (Heard control role) = heard_5_leaving_unasked role control
     in_5_leaving_unasked (Expiry T200) =
         alike_if e.t200 _ _ _ _
