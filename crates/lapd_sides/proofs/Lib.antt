@@ -1,3 +1,4 @@
+pub mod ComputedSide
 pub mod Dialogues
 pub mod Calling
 pub mod Using
