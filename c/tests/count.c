@@ -122,6 +122,76 @@ static void poll(void)
 	WANT(length == 4 && answer[3] == 1);
 }
 
+/* Passes a frame to the network side, and fetches all results: so many. */
+static void pass_in(const uint8_t *frame, size_t length, unsigned results)
+{
+	uint8_t octets[LAPD_MOST_FRAME];
+	lapd_primitive item;
+	size_t left;
+
+	DONE(lapd_side_take(&pairs->network, frame, length, 0));
+	do {
+		DONE(lapd_side_next(&pairs->network, &item, octets, sizeof octets, &left));
+		results--;
+	} while (left > 0);
+	WANT(results == 0);
+}
+
+/* Passes in DISC and SABME, and fetches each UA and what layer 3 gets. */
+static void release(void)
+{
+	static const uint8_t disc[] = { 0x00, 0x01, 0x53 }, sabme[] = { 0x00, 0x01, 0x7f };
+
+	pass_in(disc, sizeof disc, 2);
+	pass_in(sabme, sizeof sabme, 2);
+}
+
+/* Before each eighth action, creates the network side again. */
+static void renew_network(long at)
+{
+	if (at % 8 == 0)
+		DONE(lapd_side_network(&pairs->network, &settings, NULL, 0));
+}
+
+/* The same. Then requests a TEI by an Identity Request, with another Ri each time. */
+static void assign(long at)
+{
+	uint8_t request[] = { 0xfc, 0xff, 0x03, 0x0f, 0x00, 0x00, 0x01, 0xff };
+
+	renew_network(at);
+	request[4] = (uint8_t)(at >> 8);
+	request[5] = (uint8_t)at;
+	pass_in(request, sizeof request, 2);
+}
+
+/* Sends a message whose frame is lost. */
+static void lose_message(void)
+{
+	uint8_t octets[LAPD_MOST_FRAME];
+	size_t length;
+
+	give(pairs);
+	DONE(lapd_side_frame(&pairs->user, octets, sizeof octets, &length));
+	frames++;
+}
+
+/* Loses a message. After the next one it is rejected, and both are sent again. */
+static void reject(void)
+{
+	lose_message();
+	send_messages(0, 1);
+}
+
+/* Loses a message. T200 expires, and the message is sent again after an enquiry. */
+static void expire(void)
+{
+	uint8_t expired;
+
+	lose_message();
+	DONE(lapd_side_tick(&pairs->user, settings.t200, &expired));
+	carry_next(&pairs->user, &pairs->network);
+}
+
 /* Creates a network side with 254 links and establishes each, so that its T203 runs. */
 static void establish_all(void)
 {
@@ -172,6 +242,11 @@ static void repeat(const char *what, long times)
 		case 'p': poll(); break;
 		case 't': DONE(lapd_side_tick(&pairs->network, 1, &expired)); break;
 		case 'd': DONE(lapd_side_deadline(&pairs->network, &moment)); break;
+		case 'r': release(); break;
+		case 'f': renew_network(at); break;
+		case 'a': assign(at); break;
+		case 'l': reject(); break;
+		case 'e': expire(); break;
 		}
 }
 
@@ -181,14 +256,16 @@ int main(int count, char **words)
 	bool is_many = count == 5 && strcmp(words[1], "many") == 0;
 	size_t at;
 
-	WANT(times > 0 && (is_many || (count == 3 && strchr("mwnptd", words[1][0]) != NULL)));
-	if (is_many || words[1][0] == 'w')
+	WANT(times > 0 && (is_many || (count == 3 && strchr("mwnptdrfale", words[1][0]) != NULL)));
+	if (is_many || words[1][0] == 'w' || words[1][0] == 'l')
 		settings = (lapd_settings)LAPD_PRIMARY;
 	if (is_many)
 		count_many((size_t)atol(words[2]), atol(words[3]), times);
 	else
 		repeat(words[1], times);
 	WANT(arrived == acknowledged && (strchr("mwn", words[1][0]) == NULL || (arrived == times && frames == 2 * times)));
+	WANT(words[1][0] != 'l' || (arrived == 2 * times && frames == 7 * times));
+	WANT(words[1][0] != 'e' || (arrived == times && frames == 5 * times));
 	for (at = 0; at < MOST_PAIRS; at++) {
 		lapd_side_free(&pairs[at].user);
 		lapd_side_free(&pairs[at].network);

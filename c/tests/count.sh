@@ -1,8 +1,8 @@
 #!/bin/sh
 # count.sh COUNT [LIBPRI]: prints the instructions of each action of the program COUNT, and of those
 # that the program LIBPRI has. Then the costs of a message over 1, 100 and 1000 pairs in turn, and of
-# a side of 1000 pairs. Instructions and misses are those of two runs subtracted, so that a program's
-# start does not count.
+# a side of 1000 pairs. An assigned TEI is one of eight, without the side's creation. Instructions and
+# misses are those of two runs subtracted, so that a program's start does not count.
 set -u
 form='%-36s %8s %8s\n'
 caches='--cache-sim=yes --I1=32768,8,64 --D1=32768,8,64 --LL=1048576,16,64'
@@ -30,6 +30,10 @@ for what in message window_message next_message poll tick deadline deadline_of_2
 	case $what in message | window_message | poll) [ $# -lt 2 ] || theirs=$(instructions "$2" $what) ;; esac
 	printf "$form" $what "$(instructions "$1" $what)" "$theirs"
 done
+for what in release lost_frame expired_timer; do
+	printf "$form" $what "$(instructions "$1" $what)" -
+done
+printf "$form" assigned_tei $(($(instructions "$1" assigned_tei) - $(instructions "$1" fresh_network))) -
 printf "\n$form" 'pairs, messages of each in turn' liblapd libpri
 for pairs in 1 100 1000; do
 	for messages in 1 7; do
