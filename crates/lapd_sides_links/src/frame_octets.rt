@@ -7,11 +7,12 @@ use std::marker::Model;
 
 /// The octets of a frame, at most 264 (Q.921 2.2, 5.9.3).
 // A frame overwrites the last one. The octets behind it keep their old values: to clear them for
-// each frame would cost more than to write it.
+// each frame would cost more than to write it. The length is first, so that a short frame and its
+// length lie in one line of the cache.
 #[derive(Drop)]
 pub struct FrameOctets {
-    room: [u8; MOST_OCTETS],
     len: usize,
+    room: [u8; MOST_OCTETS],
 }
 
 impl Model for FrameOctets {

@@ -38,10 +38,11 @@ use lapd_timers::{Durations, Timer, TimerSet};
 use std::alloc::{AllocError, Global};
 
 /// The links of a side with their timers, by SAPI and TEI.
+// What each frame needs is first, so that it lies in few lines of the cache.
 #[derive(Drop)]
 pub struct LinkSet {
-    pub table: LinkTable,
     link_timers: LinkTimers,
+    pub table: LinkTable,
     /// The outputs of the last step of a link. They are reused, because new ones would have to be
     /// filled for each step.
     outs: Outs,

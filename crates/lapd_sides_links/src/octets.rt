@@ -10,8 +10,8 @@ use std::marker::Model;
 // A message overwrites the last one, as in `FrameOctets`.
 #[derive(Debug, Drop)]
 pub struct Octets {
-    room: [u8; N201],
     len: usize,
+    room: [u8; N201],
 }
 
 impl Model for Octets {

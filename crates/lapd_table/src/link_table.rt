@@ -25,11 +25,11 @@ pub struct LinkTable {
     alloc: Global,
     side: Side,
     links: Slab<Link>,
-    /// The slab key of each link.
-    keys: BTreeMap<LinkId, usize>,
     /// At the rank of each id, one more than the slab key of its link. 0 if there is no link, or the
     /// key does not fit, as none of 254 links does.
     places: [u8; 384],
+    /// The slab key of each link.
+    keys: BTreeMap<LinkId, usize>,
     ghost places_fit: { ArePlaces places keys } by { Prim.hlevel props },
     ghost index: { IsIndex side links keys } by { Prim.hlevel props },
 }
