@@ -234,6 +234,15 @@ def compiled(crate, flags, words, to, top=TOP):
             process.wait()
 
 
+def copy_crates(room):
+    """Copies the sources of all crates to this folder, which rt then takes for a repository."""
+    skip = shutil.ignore_patterns("out", "must-fail", "also-refused", "data")
+    shutil.copytree(f"{TOP}/crates", f"{room}/crates", ignore=skip)
+    for name in ("crates.txt", "HANDLES"):
+        shutil.copyfile(f"{TOP}/{name}", f"{room}/{name}")
+    os.mkdir(f"{room}/.git")
+
+
 def prove(*words):
     """Runs tools/prove, and returns its status. A signal ends it too."""
     process = subprocess.Popen([f"{TOP}/tools/prove", *words], stdin=subprocess.DEVNULL)
