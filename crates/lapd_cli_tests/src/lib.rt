@@ -6,26 +6,21 @@
 //! - Lines of each command, some of them random, have a reported reason exactly if the command
 //!   refuses them.
 //! - The failures of standard streams are reported, and hostile octets arrive at a port.
-//! - Captures are read and written as by Wireshark's programs.
-//! - Sides run in real time, with a clock that advances while they wait.
 //!
-//! The tests are a crate of their own so that each crate is proved once. Contracts are not tested
+//! `lapd_cli_decode_tests` has the tests of captures, and `lapd_cli_live_tests` those of sides in
+//! real time.
+//!
+//! The tests are crates of their own so that each crate is proved once. Contracts are not tested
 //! again. A row shows that the definitions have the intended meaning, that a call can succeed, and
 //! what is printed.
 #![tactic(auto)]
 
-#[cfg(test)]
-mod audits;
-#[cfg(test)]
-mod captures;
 #[cfg(test)]
 mod command_line;
 #[cfg(test)]
 mod connections;
 #[cfg(test)]
 mod examples;
-#[cfg(test)]
-mod live;
 #[cfg(test)]
 mod memory;
 #[cfg(test)]
@@ -40,5 +35,3 @@ mod scenarios;
 mod streams;
 #[cfg(test)]
 mod strings;
-#[cfg(test)]
-mod wants;

@@ -7,30 +7,10 @@ use lapd_cli_console::{PrintedAnswers, RecentLines, Refusals, Script, Session};
 use lapd_cli_options::{Invocation, parse_words};
 use lapd_cli_script::ScriptFault;
 use lapd_cli_side_commands::{FromRead, FromWrite, Port};
+use lapd_test_text::Parts;
 use std::alloc::{AllocError, Global};
 use std::io::{self, BufReader, ErrorKind, Read, Write};
 use std::test::Fail;
-
-/// A reader that returns at most `most` octets per read, and at the end nothing or this fault.
-#[derive(Drop)]
-pub(crate) struct Parts<'a> {
-    pub(crate) octets: &'a [u8],
-    pub(crate) most: usize,
-    pub(crate) fault: Option<ErrorKind>,
-}
-
-impl Read for Parts<'_> {
-    fn read(&mut self, buf: &mut [u8]) -> io::Result<usize> {
-        let count = self.octets.len().min(self.most).min(buf.len());
-        let (part, rest) = self.octets.split_at(count);
-        buf[..count].copy_from_slice(part);
-        self.octets = rest;
-        match self.fault {
-            Some(kind) if count == 0 => Err(io::Error::from(kind)),
-            _ => Ok(count),
-        }
-    }
-}
 
 /// A text of `lines` lines with 0 to 88 letters each.
 fn long_text(alloc: Global, lines: u32) -> Result<String, AllocError> {

@@ -1,8 +1,8 @@
 //! Hostile octets as a stream. A port must read strings of any length unchanged if a frame may have
 //! that length; a shorter or longer one is a bad length.
 
-use crate::streams::Parts;
 use lapd_port::{FromRead, FromWrite, Port, PortFault};
+use lapd_test_text::Parts;
 use rand_core::{Rng, SeedableRng};
 use rand_pcg::Pcg32;
 use std::alloc::{AllocError, Global};

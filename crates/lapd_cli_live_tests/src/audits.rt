@@ -1,9 +1,9 @@
 //! Audits of the TEIs of a bus (Q.921 5.3.3), call by call.
 
-use crate::wants::all_hold;
 use lapd_sides::Tei;
 use lapd_tei::{Assigner, AssignerEvent, TeiKind, TeiMessage};
 use lapd_tei_audit::{AuditStep, TeiAudit, UsedTei, used_tei};
+use lapd_test_text::all_hold;
 use std::test::Fail;
 
 /// T201 and the interval, in milliseconds.

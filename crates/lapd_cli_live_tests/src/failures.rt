@@ -1,12 +1,12 @@
 //! Each call of the surroundings fails once.
 
-use crate::live::made::{Arrivals, Input, Made, Trouble};
-use crate::live::scenario_run::{ScenarioRun, Who, hold, scenario};
-use crate::live::typed::{Keys, Reads};
-use crate::wants::wants;
+use crate::made::{Arrivals, Input, Made, Trouble};
+use crate::scenario_run::{ScenarioRun, Who, hold, scenario};
+use crate::typed::{Keys, Reads};
 use lapd_cli_live::{LineStyle, LiveStop, Style};
 use lapd_cli_script::ScriptFault;
 use lapd_port::PortFault;
+use lapd_test_text::wants;
 use std::alloc::{AllocError, Global};
 use std::test::Fail;
 

@@ -1,6 +1,6 @@
 //! Scripts over pipes, and sessions: lines of input arrive while a side is running.
 
-use crate::live::scenario_run::all_rows;
+use crate::scenario_run::all_rows;
 use std::test::Fail;
 
 const ROWS: &str = r#"

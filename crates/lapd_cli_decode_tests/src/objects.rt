@@ -1,6 +1,6 @@
 //! JSON objects for octets, as in docs/CLI.md.
 
-use crate::captures::lines::rows_hold;
+use crate::lines::rows_hold;
 use lapd_cli_decode::Style;
 use std::test::Fail;
 

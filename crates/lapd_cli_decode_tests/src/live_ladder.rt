@@ -1,12 +1,12 @@
 //! The ladder of a line, and the capture of the same frames.
 
-use crate::captures::read::{are_lines, parts_of};
-use crate::wants::all_hold;
+use crate::read::{are_lines, parts_of};
 use lapd_capture::{CaptureWriter, MOST_FRAME};
 use lapd_cli_decode::{
     CaptureReader, CaptureStyle, Drawing, Follow, FrameDrawer, FrameStyle, FrameTime, Layout, Side,
     follow_capture,
 };
+use lapd_test_text::all_hold;
 use std::alloc::Global;
 use std::io;
 use std::test::Fail;

@@ -13,8 +13,8 @@
 //! - `serve`: the side runs on after the end of the input
 //! - how it ends: `done`, `unmet`, `bad N`, `device` or another fault
 
-use crate::live::made::{Arrivals, Input, Made, Trouble};
-use crate::live::typed::{Keys, Reader, Reads};
+use crate::made::{Arrivals, Input, Made, Trouble};
+use crate::typed::{Keys, Reader, Reads};
 use lapd_cli_live::{
     LineStyle, LiveSide, LiveStop, Printer, Style, frames_of_step, live_script, live_session,
 };

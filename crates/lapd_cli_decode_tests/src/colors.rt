@@ -1,10 +1,10 @@
 //! Lines in colors.
 
-use crate::captures::read::are_lines;
-use crate::captures::senders::{NOTE, rows_hold};
-use crate::wants::all_hold;
+use crate::read::are_lines;
+use crate::senders::{NOTE, rows_hold};
 use lapd_cli_decode::{CaptureStyle, Follow, FrameStyle, LineForm, LinesStyle, Style, print_lines};
 use lapd_cli_script::ScriptFault;
+use lapd_test_text::all_hold;
 use std::alloc::Global;
 use std::io;
 use std::test::Fail;

@@ -1,8 +1,8 @@
 //! Captures of which not all frames are printed, or that are printed with times.
 
-use crate::captures::read::result_is;
-use crate::wants::wants;
+use crate::read::result_is;
 use lapd_cli_decode::{CaptureStyle, Filter, FrameStyle, FrameTime, Layout, Side, Style};
+use lapd_test_text::wants;
 use std::alloc::Global;
 use std::test::Fail;
 

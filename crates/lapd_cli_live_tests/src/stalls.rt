@@ -2,11 +2,11 @@
 //! timer may expire whose answer has arrived meanwhile. And a flood of frames must not stop the
 //! timers.
 
-use crate::live::made::{Arrivals, Input, Made, Trouble};
-use crate::live::scenario_run::{Who, all_rows, scenario};
-use crate::live::typed::{Keys, Reads};
-use crate::wants::wants;
+use crate::made::{Arrivals, Input, Made, Trouble};
+use crate::scenario_run::{Who, all_rows, scenario};
+use crate::typed::{Keys, Reads};
 use lapd_cli_live::{LineStyle, Style};
+use lapd_test_text::wants;
 use std::alloc::{AllocError, Global};
 use std::test::Fail;
 

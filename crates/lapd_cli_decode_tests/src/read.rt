@@ -1,11 +1,10 @@
 //! Reading captures, compared by the printed lines.
 
-use crate::streams::Parts;
-use crate::wants::{is_printed_as, wants};
 use lapd_cli_decode::{
     CaptureReader, CaptureStop, CaptureStyle, FrameStyle, ReadFault, Seen, Side, Style,
     decode_capture,
 };
+use lapd_test_text::{Parts, wants};
 use std::alloc::Global;
 use std::test::Fail;
 
@@ -228,4 +227,13 @@ pub(crate) fn are_separated(printed: &[u8], lines: &str, mark: char) -> bool {
         rest = behind;
     }
     rest.is_empty()
+}
+
+/// Whether the value has this text.
+fn is_printed_as<T: ToString>(alloc: Global, lines_printed: &T, text: &str) -> bool {
+    let said = lines_printed.to_string(alloc);
+    match &said {
+        Ok(said) => said.as_str() == text,
+        Err(_) => false,
+    }
 }

@@ -1,12 +1,12 @@
 //! Captures and lines whose links are followed.
 
-use crate::captures::read::{are_lines, parts_of};
-use crate::wants::all_hold;
+use crate::read::{are_lines, parts_of};
 use lapd_cli_decode::{
     CaptureReader, CaptureStop, CaptureStyle, Drawing, Follow, FrameStyle, FrameTime, Layout,
     LineForm, LinesStyle, ReadFault, Seen, Side, Style, follow_capture, print_lines,
 };
 use lapd_cli_script::ScriptFault;
+use lapd_test_text::all_hold;
 use std::alloc::Global;
 use std::test::Fail;
 

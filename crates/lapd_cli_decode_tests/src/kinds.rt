@@ -1,8 +1,8 @@
 //! The kinds of files, by their first octets.
 
-use crate::captures::read::parts_of;
-use crate::wants::wants;
+use crate::read::parts_of;
 use lapd_capture::{FileKind, KIND_OCTETS, kind_of_file, take_front};
+use lapd_test_text::wants;
 use std::alloc::Global;
 use std::test::Fail;
 

@@ -2,7 +2,7 @@
 
 ghost use Rattle.std.specs.Prelude.{◌≤◌, IfOk};
 
-use crate::live::typed::Reads;
+use crate::typed::Reads;
 use lapd_cli_live::{Impairment, Incident, Lines, MOST_RECEIVED, Outside, Sending, Woken};
 use lapd_port::PortFault;
 use lapd_sides::LinkId;

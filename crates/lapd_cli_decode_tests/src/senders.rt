@@ -1,12 +1,12 @@
 //! Captures that do not name the senders of their frames, and frames of all SAPIs.
 
-use crate::captures::read::{are_lines, are_separated, parts_of};
-use crate::wants::{all_hold, wants};
+use crate::read::{are_lines, are_separated, parts_of};
 use lapd_cli_decode::{
     CaptureReader, CaptureStop, CaptureStyle, Drawing, FrameStyle, Layout, LineForm, LinesStyle,
     ReadFault, Seen, Side, Style, decode_capture, print_lines,
 };
 use lapd_cli_script::ScriptFault;
+use lapd_test_text::{all_hold, wants};
 use std::alloc::Global;
 use std::io;
 use std::test::Fail;

@@ -1,11 +1,11 @@
 //! Lines of loose forms and their output, and lines that are skipped.
 
-use crate::captures::read::are_separated;
-use crate::wants::{all_hold, wants};
+use crate::read::are_separated;
 use lapd_cli_decode::{
     FrameStyle, LineForm, LinesStyle, Side, Style, decode_good_lines, decode_lines, print_lines,
 };
 use lapd_cli_script::ScriptFault;
+use lapd_test_text::{all_hold, wants};
 use std::alloc::Global;
 use std::test::Fail;
 

@@ -1,8 +1,8 @@
 //! Hex dumps of several lines, as other programs print them, joined to one line each.
 
-use crate::captures::read::parts_of;
-use crate::wants::wants;
+use crate::read::parts_of;
 use lapd_cli_decode::JoinedDumps;
+use lapd_test_text::wants;
 use std::alloc::Global;
 use std::io::Read;
 use std::test::Fail;

@@ -1,9 +1,9 @@
 //! The octets written for frames, by the definitions of the formats.
 
-use crate::wants::all_hold;
 use lapd_capture::{
     BLOCKS_HEADER, CaptureWriter, FILE_HEADER, Side, block_of, gsmtap_of, record_of,
 };
+use lapd_test_text::all_hold;
 use std::alloc::Global;
 use std::io;
 use std::test::Fail;

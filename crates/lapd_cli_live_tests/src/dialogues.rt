@@ -1,6 +1,6 @@
 //! Scripts from files: the printed lines, and their times.
 
-use crate::live::scenario_run::all_rows;
+use crate::scenario_run::all_rows;
 use std::test::Fail;
 
 const ROWS: &str = r#"

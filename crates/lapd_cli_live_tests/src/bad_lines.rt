@@ -1,11 +1,11 @@
 //! Lines that are invalid with the real clock, and lines that are valid.
 
-use crate::live::made::{Arrivals, Input, Made, Trouble};
-use crate::live::scenario_run::{Who, scenario};
-use crate::live::typed::{Keys, Reads};
-use crate::wants::wants;
+use crate::made::{Arrivals, Input, Made, Trouble};
+use crate::scenario_run::{Who, scenario};
+use crate::typed::{Keys, Reads};
 use lapd_cli_live::{LineStyle, LiveStop, Style};
 use lapd_cli_script::ScriptFault;
+use lapd_test_text::wants;
 use std::alloc::Global;
 use std::test::Fail;
 

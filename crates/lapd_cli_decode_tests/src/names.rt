@@ -1,6 +1,6 @@
 //! Messages in words, as `decode --names` prints them.
 
-use crate::captures::lines::rows_hold;
+use crate::lines::rows_hold;
 use lapd_cli_decode::Style;
 use std::test::Fail;
 
