@@ -51,9 +51,22 @@ extern "C" {
 #endif
 
 /* The version of this header, as text, and as a number: 10,000 times the major version, 100 times
- * the minor one, and the patch. lapd_version() is the number of the library. */
-#define LAPD_VERSION_STRING "0.1.0"
-#define LAPD_VERSION 100
+ * the minor one, and the patch. lapd_version() is the number of the library. LAPD_ABI is the number
+ * in the name of the shared library, liblapd.so.1.
+ *
+ * A compiled program runs with every library of the same LAPD_ABI and of its version or a later
+ * one. Within one LAPD_ABI
+ *   - a later version may add calls, constants and fields, and then has a greater minor version. It
+ *     changes and removes none;
+ *   - no struct changes its size. New fields take the place of `reserved`: a setting that is 0
+ *     means what it meant before, and the library writes 0 to `reserved`;
+ *   - a call may return new codes, and deliver new kinds. A program accepts those that it does not
+ *     know.
+ * Any other change raises LAPD_ABI and the minor or major version. "Since" names the version that
+ * first had a call. A version with a greater patch number changes nothing here. */
+#define LAPD_VERSION_STRING "0.2.0"
+#define LAPD_VERSION 200
+#define LAPD_ABI 1
 
 /* LAPD_MUST_USE marks a call whose result must not be ignored: if it is not LAPD_DONE, a frame or a
  * message is lost, and no other call reports that. LAPD_DEPRECATED marks a call that a later
@@ -155,7 +168,7 @@ enum lapd_kind {
 
 /* The configuration of a side. */
 typedef struct lapd_settings {
-	uint32_t size;   /* sizeof(lapd_settings), so that a later version can add fields; another size
+	uint32_t size;   /* sizeof(lapd_settings); another size, as that of a header of another LAPD_ABI,
 	                  * is out of range */
 	uint32_t t200;   /* ms, 1 to 3600000: the wait for a response; must exceed the round trip */
 	uint32_t t201;   /* ms, 1 to 3600000: network side, an identity check */
@@ -173,15 +186,16 @@ typedef struct lapd_settings {
 	uint8_t k0;      /* the window of SAPI 0, 1 to 127 */
 	uint8_t k16;     /* the window of SAPI 16, 1 to 127 */
 	uint8_t sapi16;  /* 0: only SAPI 0 is served; otherwise SAPI 16 too */
+	uint64_t reserved[3]; /* 0: room for settings of later versions */
 } lapd_settings;
 
 /* The values of Q.921 5.9 for basic access and primary rate, as in
  * `lapd_settings settings = LAPD_BASIC;`. The seed is 0: set it for a user side without a fixed
  * TEI. */
 #define LAPD_BASIC   \
-	{ sizeof(lapd_settings), 1000, 1000, 2000, 10000, 512, 1024, 0, 3, 1, 3, 0 }
+	{ sizeof(lapd_settings), 1000, 1000, 2000, 10000, 512, 1024, 0, 3, 1, 3, 0, { 0, 0, 0 } }
 #define LAPD_PRIMARY \
-	{ sizeof(lapd_settings), 1000, 1000, 2000, 10000, 512, 1024, 0, 3, 7, 7, 0 }
+	{ sizeof(lapd_settings), 1000, 1000, 2000, 10000, 512, 1024, 0, 3, 7, 7, 0, { 0, 0, 0 } }
 
 typedef struct lapd_primitive {
 	uint8_t kind;    /* enum lapd_kind */
@@ -190,6 +204,7 @@ typedef struct lapd_primitive {
 	uint8_t letter;  /* 0 if not used */
 	uint16_t count;  /* 0 if not used */
 	size_t octets;   /* the number of octets in the buffer; 0 if not used */
+	uint64_t reserved; /* 0: room for a field of a later version */
 } lapd_primitive;
 
 /* The state of a link. */
@@ -202,6 +217,7 @@ typedef struct lapd_link_state {
 	uint8_t own_busy;   /* 1 if this end is receiver busy, else 0 */
 	uint8_t rejecting;  /* 1 if a message is missing and REJ has requested it, else 0 */
 	uint16_t waiting;   /* messages neither acknowledged nor dropped, 0 to 1024 */
+	uint64_t reserved[2]; /* 0: room for fields of later versions */
 } lapd_link_state;
 
 /* The counters of a link since lapd_side_count. Each stops at UINT64_MAX.
@@ -222,6 +238,7 @@ typedef struct lapd_link_counters {
 	uint64_t rnr_sent;     /* RNR sent: this end is receiver busy */
 	uint64_t rnr_received;
 	uint64_t reports;      /* LAPD_MDL_ERROR */
+	uint64_t reserved[8];  /* 0: room for counters of later versions */
 } lapd_link_counters;
 
 #define LAPD_NO_TEI 255          /* for lapd_side_user: no fixed TEI; from lapd_side_tei: no TEI */
@@ -231,27 +248,28 @@ typedef struct lapd_link_counters {
 #define LAPD_MOST_NAME 26        /* the maximum number of octets of a name, with its final 0 */
 #define LAPD_NEVER UINT64_MAX    /* from lapd_side_deadline: no timer runs */
 
+/* The number of the library, as LAPD_VERSION. Since 0.1. */
 uint32_t lapd_version(void);
 
 /* Creates a network side that holds `count` TEIs, each 0 to 126, whose links exist from the start;
  * other TEIs are assigned on request. A TEI that is listed twice counts once. Frees the side that
  * the handle owned.
- * LAPD_OUT_OF_RANGE, LAPD_NO_MEMORY: the handle is unchanged. */
+ * LAPD_OUT_OF_RANGE, LAPD_NO_MEMORY: the handle is unchanged. Since 0.1. */
 lapd_result lapd_side_network(lapd_side *side, const lapd_settings *settings, const uint8_t *teis,
 	size_t count);
 
 /* Creates a user side with a fixed TEI, 0 to 126, or with LAPD_NO_TEI. Without a TEI it requests
  * one from the network when layer 3 requests to establish a link, and by lapd_side_ask_tei.
- * Otherwise like lapd_side_network. */
+ * Otherwise like lapd_side_network. Since 0.1. */
 lapd_result lapd_side_user(lapd_side *side, const lapd_settings *settings, uint8_t tei);
 
-/* Frees the side. The handle then owns none, and freeing it again does nothing. */
+/* Frees the side. The handle then owns none, and freeing it again does nothing. Since 0.1. */
 void lapd_side_free(lapd_side *side);
 
 /* Processes a frame received from the line. Octets that do not form a valid frame, and frames for
  * no link of this side, are discarded and counted; the result is LAPD_DONE too.
  * LAPD_NO_MEMORY: the frame assigns a TEI, and its links could not be allocated; the frame may be
- * passed in again. */
+ * passed in again. Since 0.1. */
 LAPD_MUST_USE lapd_result lapd_side_take(lapd_side *side, const uint8_t *frame, size_t length,
 	uint64_t now);
 
@@ -259,38 +277,40 @@ LAPD_MUST_USE lapd_result lapd_side_take(lapd_side *side, const uint8_t *frame, 
  * only the SAPI: the TEI is its own, and any number from 0 to 127 is accepted; other numbers return
  * LAPD_OUT_OF_RANGE. */
 
-/* Establishes the link (DL-ESTABLISH request). LAPD_NO_LINK, LAPD_RELEASING. */
+/* Establishes the link (DL-ESTABLISH request). LAPD_NO_LINK, LAPD_RELEASING. Since 0.1. */
 lapd_result lapd_side_establish(lapd_side *side, uint8_t sapi, uint8_t tei, uint64_t now);
 
-/* Releases the link (DL-RELEASE request). LAPD_NO_LINK. */
+/* Releases the link (DL-RELEASE request). LAPD_NO_LINK. Since 0.1. */
 lapd_result lapd_side_release(lapd_side *side, uint8_t sapi, uint8_t tei, uint64_t now);
 
-/* Sends a message (DL-DATA request), which the side copies. Any code can be returned. */
+/* Sends a message (DL-DATA request), which the side copies. Any code can be returned. Since 0.1. */
 LAPD_MUST_USE lapd_result lapd_side_give(lapd_side *side, uint8_t sapi, uint8_t tei,
 	const uint8_t *message, size_t length, uint64_t now);
 
 /* Sends unit data (DL-UNIT DATA request), without acknowledgement; from a network side to all
- * terminals if tei is LAPD_GROUP_TEI. LAPD_NO_LINK, LAPD_NO_MEMORY, LAPD_TOO_LONG. */
+ * terminals if tei is LAPD_GROUP_TEI. LAPD_NO_LINK, LAPD_NO_MEMORY, LAPD_TOO_LONG. Since 0.1. */
 LAPD_MUST_USE lapd_result lapd_side_unit(lapd_side *side, uint8_t sapi, uint8_t tei,
 	const uint8_t *octets, size_t length, uint64_t now);
 
 /* Enters own receiver busy on the link if `on` is not 0, so that this end accepts no messages for
- * now, or leaves it (Q.921 5.6.6). LAPD_NO_LINK. */
+ * now, or leaves it (Q.921 5.6.6). LAPD_NO_LINK. Since 0.1. */
 lapd_result lapd_side_busy(lapd_side *side, uint8_t sapi, uint8_t tei, uint8_t on, uint64_t now);
 
-/* Requests a TEI if the user side has none. A network side ignores it. */
+/* Requests a TEI if the user side has none. A network side ignores it. Since 0.1. */
 lapd_result lapd_side_ask_tei(lapd_side *side, uint64_t now);
 
 /* Checks whether terminals have this TEI, 0 to 126. Check only TEIs that are held: a check of a TEI
  * that no terminal has may end after the TEI was assigned, and then frees it under its terminal. A
  * user side ignores it. LAPD_OUT_OF_RANGE: tei is above 126. LAPD_CHECK_RUNS: another check is in
- * progress; check again after its outcome, LAPD_TEI_FREE, LAPD_TEI_IN_USE or LAPD_TEI_DOUBLED. */
+ * progress; check again after its outcome, LAPD_TEI_FREE, LAPD_TEI_IN_USE or LAPD_TEI_DOUBLED.
+ * Since 0.1. */
 lapd_result lapd_side_check_tei(lapd_side *side, uint8_t tei, uint64_t now);
 
 /* Checks all TEIs: sends one check request to all terminals (Q.921 5.3.3), and each that has a TEI
  * answers with it. No check begins, and nothing is reported: the answers are frames that you pass
  * in. A TEI that is checked before they have arrived is counted too often, so wait for T201 before
- * lapd_side_check_tei. A user side ignores it. LAPD_CHECK_RUNS: a check is in progress. */
+ * lapd_side_check_tei. A user side ignores it. LAPD_CHECK_RUNS: a check is in progress.
+ * Since 0.2. */
 lapd_result lapd_side_check_all(lapd_side *side, uint64_t now);
 
 /* Removes this TEI, 0 to 126 (MDL-REMOVE request, Q.921 5.3.4), and its links. A network side sends
@@ -299,56 +319,58 @@ lapd_result lapd_side_check_all(lapd_side *side, uint64_t now);
  * terminal: one that receives neither message keeps it, so check the TEI before you rely on it. A
  * TEI below 64 is not assigned again. A user side gives up its TEI and reports LAPD_TEI_GONE; it
  * sends nothing. LAPD_NO_LINK: the TEI is not that of this user side. LAPD_OUT_OF_RANGE: tei is
- * above 126. */
+ * above 126. Since 0.1. */
 lapd_result lapd_side_remove_tei(lapd_side *side, uint8_t tei, uint64_t now);
 
 /* Removes all TEIs from the terminals of a network side that holds none, as after a restart without
  * its list: sends Identity remove to all terminals twice (Q.921 5.3.4), and reports nothing. A
  * network side that holds a TEI ignores it: first remove each TEI that it holds. A user side
- * ignores it. */
+ * ignores it. Since 0.2. */
 lapd_result lapd_side_remove_all(lapd_side *side, uint64_t now);
 
 /* Sets T200 to T203 in milliseconds, each 1 to 3600000, for timers that are started from then on,
  * also those of links that are added later. A running timer keeps its deadline. Never returns
- * LAPD_PENDING. LAPD_OUT_OF_RANGE: nothing is changed. */
+ * LAPD_PENDING. LAPD_OUT_OF_RANGE: nothing is changed. Since 0.1. */
 lapd_result lapd_side_set_timers(lapd_side *side, uint32_t t200, uint32_t t201, uint32_t t202,
 	uint32_t t203);
 
 /* Expires the first timer that is due at `now`. *expired is 1 if one was due, else 0; call it until
  * it is 0. Before you expire timers for a moment, pass in every frame that had arrived by then.
  * Otherwise T200 may expire although its response has arrived, and the peer receives a second
- * SABME, or a message again. */
+ * SABME, or a message again. Since 0.1. */
 lapd_result lapd_side_tick(lapd_side *side, uint64_t now, uint8_t *expired);
 
 /* The next moment at which lapd_side_tick has something to do. LAPD_NEVER if no timer runs or the
  * handle owns no side. Only calls that pass something in change it. Wait until then, or until a
- * frame arrives; then take every frame that has arrived, and only then call lapd_side_tick. */
+ * frame arrives; then take every frame that has arrived, and only then call lapd_side_tick.
+ * Since 0.1. */
 lapd_result lapd_side_deadline(const lapd_side *side, uint64_t *moment);
 
 /* The number of frames that lapd_side_take has discarded since the side was created. It stops at
- * UINT64_MAX, and is 0 if the handle owns no side. */
+ * UINT64_MAX, and is 0 if the handle owns no side. Since 0.1. */
 lapd_result lapd_side_discarded(const lapd_side *side, uint64_t *count);
 
 /* The state of the link with a SAPI, 0, 16 or 63, and a TEI, 0 to 127. A user side uses only the
- * SAPI, as for requests. LAPD_OUT_OF_RANGE, LAPD_NO_SIDE, LAPD_NO_LINK: all of *state is 0. */
+ * SAPI, as for requests. LAPD_OUT_OF_RANGE, LAPD_NO_SIDE, LAPD_NO_LINK: all of *state is 0.
+ * Since 0.1. */
 lapd_result lapd_side_state(const lapd_side *side, uint8_t sapi, uint8_t tei,
 	lapd_link_state *state);
 
 /* Begins to count the I frames, REJ, RNR and reports of each link, from 0; if the side counts
  * already, it counts from 0 again. It allocates about 28000 octets, until the side is freed. A new
- * side does not count. LAPD_NO_MEMORY: nothing is changed. */
+ * side does not count. LAPD_NO_MEMORY: nothing is changed. Since 0.1. */
 lapd_result lapd_side_count(lapd_side *side);
 
 /* The counters of the link with a SAPI, 0, 16 or 63, and a TEI, 0 to 127. A user side uses the TEI
  * too: after it lost its TEI, the counters can still be read. A call counts its frames and reports
  * when it is made, even if they are not fetched yet. LAPD_OUT_OF_RANGE, LAPD_NO_SIDE,
- * LAPD_NOT_COUNTING: all of *counters is 0. */
+ * LAPD_NOT_COUNTING: all of *counters is 0. Since 0.1. */
 lapd_result lapd_side_counters(const lapd_side *side, uint8_t sapi, uint8_t tei,
 	lapd_link_counters *counters);
 
 /* The state of a user side's terminal (Q.921 Annex B): 1 TEI unassigned, 2 assign awaiting TEI,
  * 3 establish awaiting TEI, 4 TEI assigned; and its TEI in state 4, else LAPD_NO_TEI. For a network
- * side, and if the handle owns no side, they are 0 and LAPD_NO_TEI. */
+ * side, and if the handle owns no side, they are 0 and LAPD_NO_TEI. Since 0.1. */
 lapd_result lapd_side_tei(const lapd_side *side, uint8_t *state, uint8_t *tei);
 
 /* Fetches the next frame to send or, if none is left, the next primitive, and its octets into the
@@ -356,18 +378,19 @@ lapd_result lapd_side_tei(const lapd_side *side, uint8_t *state, uint8_t *tei);
  * *left is the number of frames and primitives that still wait after the call, so a program need
  * not call again to find none. A buffer of LAPD_MOST_FRAME octets has room for each.
  * LAPD_OUT_OF_RANGE: there are more than `size` octets, and *item contains their number; nothing is
- * written to the buffer, and the frame or primitive still waits. */
+ * written to the buffer, and the frame or primitive still waits. Since 0.1. */
 lapd_result lapd_side_next(lapd_side *side, lapd_primitive *item, uint8_t *buffer, size_t size,
 	size_t *left);
 
 /* Fetches the next frame to send, into the beginning of the buffer. *length is its number of
  * octets, or 0 if none is left. LAPD_OUT_OF_RANGE: the frame has more than `size` octets; nothing
- * is written to the buffer, and the frame still waits. */
+ * is written to the buffer, and the frame still waits. Since 0.1. */
 lapd_result lapd_side_frame(lapd_side *side, uint8_t *buffer, size_t size, size_t *length);
 
 /* Fetches the next primitive, and its octets into the beginning of the buffer. Its kind is
  * LAPD_NOTHING if none is left. LAPD_OUT_OF_RANGE: it has more than `size` octets, and *primitive
- * contains their number; nothing is written to the buffer, and the primitive still waits. */
+ * contains their number; nothing is written to the buffer, and the primitive still waits.
+ * Since 0.1. */
 lapd_result lapd_side_primitive(lapd_side *side, lapd_primitive *primitive, uint8_t *buffer,
 	size_t size);
 
@@ -376,18 +399,18 @@ lapd_result lapd_side_primitive(lapd_side *side, lapd_primitive *primitive, uint
  * is not 0, else a user side. The text is at the beginning of the buffer, with a 0 behind it if
  * there is room. *text is its number of characters without the 0, at most 43 plus two for each
  * octet. LAPD_OUT_OF_RANGE: that is more than `size`, and nothing is written to the buffer.
- * LAPD_NO_MEMORY: *text is 0. The call needs no side. */
+ * LAPD_NO_MEMORY: *text is 0. The call needs no side. Since 0.1. */
 lapd_result lapd_frame_text(const uint8_t *frame, size_t length, uint8_t network, uint8_t *buffer,
 	size_t size, size_t *text);
 
 /* Writes the name of a code or a kind, as in `LAPD_NO_LINK`, as lapd_frame_text does. *text is
  * its number of characters, 0 if the number has no name. A buffer of LAPD_MOST_NAME octets has room
- * for each name and its final 0. */
+ * for each name and its final 0. Since 0.1. */
 lapd_result lapd_code_name(uint32_t code, uint8_t *buffer, size_t size, size_t *text);
 lapd_result lapd_kind_name(uint8_t kind, uint8_t *buffer, size_t size, size_t *text);
 
 /* The same names as strings, "" if the number has no name, without a call of the library. C89 has
- * no inline functions, so they are for C99 and later, and for C++. */
+ * no inline functions, so they are for C99 and later, and for C++. Since 0.2. */
 #if defined(__cplusplus) || (defined(__STDC_VERSION__) && __STDC_VERSION__ >= 199901L)
 static inline const char *lapd_code_string(uint32_t code)
 {

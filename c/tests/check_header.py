@@ -17,11 +17,11 @@ NUMBERS = {
 }
 STRUCTS = {
     "Handle": "lapd_side", "Settings": "lapd_settings", "FlatPrimitive": "lapd_primitive", "LinkState": "lapd_link_state",
-    "LinkCounters": "lapd_link_counters",
+    "FlatCounters": "lapd_link_counters",
 }
 # The struct of each of these files of the crate.
 FILES = {
-    "settings": "Settings", "flat_primitive": "FlatPrimitive", "link_state": "LinkState", "link_counters": "LinkCounters",
+    "settings": "Settings", "flat_primitive": "FlatPrimitive", "link_state": "LinkState", "link_counters": "FlatCounters",
 }
 # Parameters with another name in C, because the crate's name would be less clear.
 NAMES = {"handle": "side", "known": "teis", "fixed": "tei", "delivered": "primitive"}
@@ -93,13 +93,21 @@ def agree(export, prototype):
 def fields_of_rattle(source, name):
     body = re.search(r"#\[repr\(C\)\][^{]*?struct " + name + r" \{(.*?)\n\}", source, re.S)[1]
     body = re.sub(r"//[^\n]*", "", body)
-    return [(c_type(t), n) for n, t in re.findall(r"(\w+): (\w+),", body)]
+    fields = []
+    for field, kind, element, count in re.findall(r"(\w+): (?:(\w+)|\[(\w+); (\d+)\]),", body):
+        if kind in NUMBERS:
+            fields.append((c_type(kind), field))
+        elif kind:
+            fields += fields_of_rattle(source, kind)  # its fields are at the same places in C
+        else:
+            fields.append((c_type(element), f"{field}[{count}]"))
+    return fields
 
 
 def fields_of_c(header, name):
     body = re.search(r"typedef struct " + name + r" \{(.*?)\} " + name + ";", header, re.S)[1]
     fields = []
-    for kind, names in re.findall(r"(\w+) ([\w, ]+);", body):
+    for kind, names in re.findall(r"(\w+) ([\w, \[\]]+);", body):
         fields += [(kind, n.strip()) for n in names.split(",")]
     return fields
 

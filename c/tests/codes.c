@@ -114,6 +114,8 @@ static void ranges(lapd_side *side)
 	s = basic, s.n200 = 101, not_made(side, &s);
 	s = basic, s.k0 = 0, not_made(side, &s);
 	s = basic, s.k16 = 128, not_made(side, &s);
+	s = basic, s.reserved[0] = 1, not_made(side, &s);
+	s = basic, s.reserved[2] = UINT64_MAX, not_made(side, &s);
 	WANT_CODE(lapd_side_network(side, &basic, &group, 1), LAPD_OUT_OF_RANGE);
 	WANT_CODE(lapd_side_user(side, &basic, LAPD_GROUP_TEI), LAPD_OUT_OF_RANGE);
 	WANT_CODE(lapd_side_user(side, &basic, 254), LAPD_OUT_OF_RANGE);

@@ -14,10 +14,10 @@ use Rattle.lapd_sides.specs.declared.either_side.EitherSide.TheVariants.{Network
 use Rattle.lapd_sides.specs.Either.{side_of, Takes, Answers, Gives, Expires, StaysIdle, SetsDurations}
 use Rattle.lapd_c.specs.declared.held_side.HeldSide.{HeldSide}
 use Rattle.lapd_c.specs.declared.link_counters.LinkCount.{LinkCount}
-use Rattle.lapd_c.specs.declared.link_counters.LinkCounters.{LinkCounters}
+use Rattle.lapd_c.specs.declared.link_counters.FlatCounters.{FlatCounters}
 use Rattle.lapd_c.specs.Calls.{HasTicked, HasBegunCounting, ReturnsCounters, ReturnsCountersOf}
 use Rattle.lapd_c.specs.Codes.{done}
-use Rattle.lapd_c.specs.Counters.{call_counted, counters_of, nothing_counted, received_counted}
+use Rattle.lapd_c.specs.Counters.{call_counted, counters_of, flat_counters, nothing_counted, received_counted}
 use Rattle.lapd_c.specs.CountedCalls.{Adds, CountedCall, one_call, with_call, with_calls}
 
 -- ---- A call leaves the kind of a side.
@@ -140,18 +140,19 @@ ticks now (suc zero) code old new h =
 ticks now (suc (suc n)) code old new h = absurd (omega (arith, h.flag))
 
 -- the counters that are returned after these calls
-returned_of : (id : LinkId) (delivered : LinkCounters) (code : ℕ) (counts : Option (List LinkCount))
+returned_of : (id : LinkId) (delivered : FlatCounters) (code : ℕ) (counts : Option (List LinkCount))
     (all : List LinkCount) → counts ≡ Some all
-    → ReturnsCountersOf counts id delivered code → (code ≡ done) × (delivered ≡ counters_of id all)
+    → ReturnsCountersOf counts id delivered code
+    → (code ≡ done) × (delivered ≡ flat_counters (counters_of id all))
 returned_of id delivered code counts all is h =
     subst (λ (c : Option (List LinkCount)). ReturnsCountersOf c id delivered code) is h
 
-pub returned : (id : LinkId) (delivered : LinkCounters) (begun code : ℕ) (calls : List CountedCall)
+pub returned : (id : LinkId) (delivered : FlatCounters) (begun code : ℕ) (calls : List CountedCall)
     (old first last after : HeldSide) → HasBegunCounting old first begun
     → Adds calls first last → ReturnsCounters id delivered last after code
     → (code ≡ done)
     × (delivered
-    ≡ counters_of id (with_calls (side_of old.queued.side) calls nothing_counted))
+    ≡ flat_counters (counters_of id (with_calls (side_of old.queued.side) calls nothing_counted)))
 returned id delivered begun code calls old first last after b h r =
     returned_of id delivered code last.counts
     (with_calls (side_of old.queued.side) calls nothing_counted)

@@ -20,11 +20,11 @@ use Rattle.lapd_sides.specs.Either.{side_of, Answers, Expires, StaysIdle, SetsDu
 use Rattle.lapd_tei.specs.declared.phase.Phase.{Phase}
 use Rattle.lapd_c.specs.declared.flat_primitive.FlatPrimitive.{FlatPrimitive}
 use Rattle.lapd_c.specs.declared.held_side.HeldSide.{HeldSide}
-use Rattle.lapd_c.specs.declared.link_counters.LinkCounters.{LinkCounters}
+use Rattle.lapd_c.specs.declared.link_counters.FlatCounters.{FlatCounters}
 use Rattle.lapd_c.specs.declared.link_counters.LinkCount.{LinkCount}
 use Rattle.lapd_c.specs.declared.link_state.LinkState.{LinkState}
 use Rattle.lapd_c.specs.Codes.{done, pending, out_of_range, check_runs, not_counting, memory, code_of, code_of_kind}
-use Rattle.lapd_c.specs.Counters.{call_counted, counters_of, no_counters, nothing_counted}
+use Rattle.lapd_c.specs.Counters.{call_counted, counters_of, flat_counters, no_counters, nothing_counted}
 use Rattle.lapd_c.specs.FlatPrimitives.{flat, flat_frame, nothing, octets_of}
 use Rattle.lapd_c.specs.LinkStates.{state_of, no_state}
 use Rattle.lapd_c.specs.SideQueries.{HasCheck, HasTerminal, link_meant, meant, state_of_terminal, tei_of_terminal}
@@ -156,12 +156,13 @@ abbrev pub BeginsCounting : HeldSide → HeldSide → ℕ → Type 0
 BeginsCounting old new code = HasNotBegunCounting old new code ⊎ HasBegunCounting old new code
 
 -- the counters of a link; all are 0 if the side does not count
-abbrev pub ReturnsCountersOf : Option (List LinkCount) → LinkId → LinkCounters → ℕ → Type 0
-ReturnsCountersOf None id delivered code = (code ≡ not_counting) × (delivered ≡ no_counters)
+abbrev pub ReturnsCountersOf : Option (List LinkCount) → LinkId → FlatCounters → ℕ → Type 0
+ReturnsCountersOf None id delivered code = (code ≡ not_counting)
+    × (delivered ≡ flat_counters no_counters)
 ReturnsCountersOf (Some counts) id delivered code =
-    (code ≡ done) × (delivered ≡ counters_of id counts)
+    (code ≡ done) × (delivered ≡ flat_counters (counters_of id counts))
 
-pub record ReturnsCounters (id : LinkId) (delivered : LinkCounters) (old new : HeldSide)
+pub record ReturnsCounters (id : LinkId) (delivered : FlatCounters) (old new : HeldSide)
     (code : ℕ) : Type 0 where
   pub same : new ≡ old
   pub counters : ReturnsCountersOf old.counts id delivered code

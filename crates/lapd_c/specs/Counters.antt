@@ -15,6 +15,7 @@ use Rattle.lapd_sides_links.specs.declared.primitive.Primitive.{Primitive}
 use Rattle.lapd_sides_links.specs.declared.primitive.Primitive.TheVariants.{Of}
 use Rattle.lapd_sides_links.specs.declared.primitive.What.TheVariants as what
 use Rattle.lapd_sides_links.specs.Effects.{Effects}
+use Rattle.lapd_c.specs.declared.link_counters.FlatCounters.{FlatCounters}
 use Rattle.lapd_c.specs.declared.link_counters.LinkCounters.{LinkCounters}
 use Rattle.lapd_c.specs.declared.link_counters.LinkCount.{LinkCount}
 
@@ -36,6 +37,10 @@ no_counters = record {
   rnr_received = 0;
   reports = 0;
 }
+
+-- the counters in the form that C reads: behind them is room for those of later versions
+abbrev pub flat_counters : LinkCounters → FlatCounters
+flat_counters counters = record { counters = counters; reserved = replicate 8 0 }
 
 -- nothing is counted, and no N(S) is the highest
 abbrev pub no_count : LinkCount

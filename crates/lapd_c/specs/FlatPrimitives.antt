@@ -79,6 +79,7 @@ flat (Of id delivered) = record {
   letter = letter_of delivered;
   count = count_of delivered;
   octets = length (octets_up delivered);
+  reserved = 0;
 }
 flat (Management outcome) = record {
   kind = kind_of_outcome outcome;
@@ -87,11 +88,20 @@ flat (Management outcome) = record {
   letter = 0;
   count = 0;
   octets = 0;
+  reserved = 0;
 }
 
 -- the value that stands for no primitive
 abbrev pub nothing : FlatPrimitive
-nothing = record { kind = 0; sapi = 0; tei = 0; letter = 0; count = 0; octets = 0 }
+nothing = record {
+  kind = 0;
+  sapi = 0;
+  tei = 0;
+  letter = 0;
+  count = 0;
+  octets = 0;
+  reserved = 0;
+}
 
 -- a frame to send, in the same form
 abbrev pub flat_frame : List ℕ → FlatPrimitive
@@ -102,6 +112,7 @@ flat_frame frame = record {
   letter = 0;
   count = 0;
   octets = length frame;
+  reserved = 0;
 }
 
 abbrev pub octets_of : Primitive → List ℕ

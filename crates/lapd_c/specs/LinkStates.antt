@@ -1,5 +1,5 @@
 -- The state of a link in the form that C reads: its end of the state table as numbers.
-use Rattle.std.specs.Prelude.{ℕ, Bool, true, false}
+use Rattle.std.specs.Prelude.{ℕ, Bool, true, false, replicate}
 use Rattle.lapd_link_definition.specs.End.{End, waiting}
 use Rattle.lapd_link_definition.specs.State.{state_number}
 use Rattle.lapd_c.specs.declared.link_state.LinkState.{LinkState}
@@ -19,6 +19,7 @@ state_of e = record {
   own_busy = flag e.window.own_busy;
   rejecting = flag e.window.rejecting;
   waiting = waiting e;
+  reserved = replicate 2 0;
 }
 
 -- the value for a link that does not exist
@@ -33,4 +34,5 @@ no_state = record {
   own_busy = 0;
   rejecting = 0;
   waiting = 0;
+  reserved = replicate 2 0;
 }

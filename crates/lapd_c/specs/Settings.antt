@@ -31,9 +31,15 @@ config_with s None params16 durations = None
 config_with s (Some params0) None durations = None
 config_with s (Some params0) (Some params16) None = None
 
--- the settings have the size of this version, and at least one frame or primitive may wait
+-- room for settings of later versions
+abbrev pub is_0 : ℕ → Bool
+is_0 number = number == 0
+
+-- the settings have the size of this version, at least one frame or primitive may wait, and the
+-- room is not used
 abbrev pub config_of : Settings → Option Config
-config_of s = if not (s.size == SETTINGS_SIZE) || (s.most_waiting == 0) then None
+config_of s = if not (s.size == SETTINGS_SIZE) || ((s.most_waiting == 0)
+    || not (list_all is_0 s.reserved)) then None
     else config_with s (parameters_of s.k0 s.n200 s.room) (parameters_of s.k16 s.n200 s.room)
     (lengths_of s.t200 s.t201 s.t202 s.t203)
 

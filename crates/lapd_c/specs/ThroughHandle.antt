@@ -8,9 +8,9 @@ use Rattle.lapd_sides.specs.declared.request.Request.{Request}
 use Rattle.lapd_sides.specs.declared.request.Request.TheVariants as request
 use Rattle.lapd_sides_links.specs.Messages.{Message, WithMessage}
 use Rattle.lapd_c.specs.declared.held_side.HeldSide.{HeldSide}
-use Rattle.lapd_c.specs.declared.link_counters.LinkCounters.{LinkCounters}
+use Rattle.lapd_c.specs.declared.link_counters.FlatCounters.{FlatCounters}
 use Rattle.lapd_c.specs.declared.link_state.LinkState.{LinkState}
-use Rattle.lapd_c.specs.Counters.{no_counters}
+use Rattle.lapd_c.specs.Counters.{flat_counters, no_counters}
 use Rattle.lapd_c.specs.LinkStates.{no_state}
 use Rattle.lapd_c.specs.Calls.{Call, Asks, Checks, HasSetTimers, ReturnsCounters, ReturnsState}
 use Rattle.lapd_c.specs.Codes.{done, no_side, out_of_range, memory}
@@ -45,12 +45,12 @@ ReturnsStateOf delivered code old new (Some id) =
     ((code ≡ no_side) × (delivered ≡ no_state)) old new
 
 -- a query of the counters of a link
-abbrev pub ReturnsCountersThrough : LinkCounters → ℕ → Held → Held → Option LinkId → Type 0
+abbrev pub ReturnsCountersThrough : FlatCounters → ℕ → Held → Held → Option LinkId → Type 0
 ReturnsCountersThrough delivered code old new None = (code ≡ out_of_range)
-    × (delivered ≡ no_counters) × (new ≡ old)
+    × (delivered ≡ flat_counters no_counters) × (new ≡ old)
 ReturnsCountersThrough delivered code old new (Some id) =
     Through (λ o n. ReturnsCounters id delivered o n code)
-    ((code ≡ no_side) × (delivered ≡ no_counters)) old new
+    ((code ≡ no_side) × (delivered ≡ flat_counters no_counters)) old new
 
 -- a request of a check
 abbrev pub ChecksSide : Request → ℕ → ℕ → Held → Held → Type 0

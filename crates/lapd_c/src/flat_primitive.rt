@@ -23,6 +23,8 @@ pub struct FlatPrimitive {
     pub count: u16,
     /// The number of octets for layer 3, or of the frame.
     pub octets: usize,
+    /// Room for a field of a later version: 0.
+    pub reserved: u64,
 }
 
 /// The kind of a received message.
@@ -46,6 +48,7 @@ impl FlatPrimitive {
             letter: 0,
             count: 0,
             octets: 0,
+            reserved: 0,
         }
     }
 
@@ -60,6 +63,7 @@ impl FlatPrimitive {
             letter: 0,
             count: 0,
             octets: frame.len(),
+            reserved: 0,
         }
     }
 
@@ -73,6 +77,7 @@ impl FlatPrimitive {
           letter = 0;
           count = count;
           octets = octets;
+          reserved = 0;
         } }
     {
         FlatPrimitive {
@@ -82,6 +87,7 @@ impl FlatPrimitive {
             letter: 0,
             count,
             octets,
+            reserved: 0,
         }
     }
 
@@ -97,6 +103,7 @@ impl FlatPrimitive {
                 letter: letter_of(what),
                 count: count_of(what),
                 octets: octets_up(what).len(),
+                reserved: 0,
             },
             Primitive::Management(outcome) => FlatPrimitive {
                 kind: kind_of_outcome(outcome),
@@ -105,6 +112,7 @@ impl FlatPrimitive {
                 letter: 0,
                 count: 0,
                 octets: 0,
+                reserved: 0,
             },
         }
     }

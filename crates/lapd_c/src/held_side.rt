@@ -11,7 +11,7 @@ use crate::codes::{
     CHECK_RUNS, DONE, MEMORY, NO_LINK, NOT_COUNTING, OUT_OF_RANGE, PENDING, code_of,
 };
 use crate::flat_primitive::{FlatPrimitive, flatten};
-use crate::link_counters::LinkCounters;
+use crate::link_counters::FlatCounters;
 use crate::link_counts::{LinkCounts, count_received, count_results};
 use crate::link_state::LinkState;
 use lapd_link::Link;
@@ -214,16 +214,16 @@ impl HeldSide {
     }
 
     /// Sets `counters` to those of the link with this id, or to 0 if the side does not count.
-    pub(crate) fn counters(&self, id: LinkId, counters: &mut LinkCounters) -> u32
+    pub(crate) fn counters(&self, id: LinkId, counters: &mut FlatCounters) -> u32
         ensures { ReturnsCounters id counters.new self.now self.now result }
     {
         match &self.counts {
             Some(counts) => {
-                *counters = counts.counters(id);
+                *counters = FlatCounters::of(counts.counters(id));
                 DONE
             }
             None => {
-                *counters = LinkCounters::nothing();
+                *counters = FlatCounters::nothing();
                 NOT_COUNTING
             }
         }

@@ -8,12 +8,12 @@ ghost use Rattle.lapd_sides_links.specs.Messages.{Message};
 ghost use Rattle.lapd_c.specs.ThroughHandle.{AsksSide, AsksCheck, AsksTei, AsksLink, AsksLinkWith, ChecksSide, Through};
 ghost use Rattle.lapd_timers.specs.Durations.{Lengths};
 ghost use Rattle.lapd_c.specs.declared.held_side.HeldSide.{HeldSide};
-ghost use Rattle.lapd_c.specs.declared.link_counters.LinkCounters.{LinkCounters};
+ghost use Rattle.lapd_c.specs.declared.link_counters.FlatCounters.{FlatCounters};
 ghost use Rattle.lapd_c.specs.Calls.{HasBegunCounting, HasCalled, HasSetTimers, HasTicked, ReturnsCounters, Ticks};
 ghost use Rattle.lapd_c.specs.CountedCalls.{Adds, CountedCall, one_call, with_calls};
 ghost use Rattle.lapd_c.specs.CodeOrder.{ReturnsInOrder};
 ghost use Rattle.lapd_c.specs.Codes.{done, memory, no_side};
-ghost use Rattle.lapd_c.specs.Counters.{counters_of, nothing_counted};
+ghost use Rattle.lapd_c.specs.Counters.{counters_of, flat_counters, nothing_counted};
 ghost use Rattle.lapd_c.specs.Owned.{Held};
 
 /// Each call that passes something in returns code 3 exactly if a number is out of range, otherwise
@@ -67,10 +67,10 @@ pub fn counters_are_sums()
         → Adds [] old new }
     ensures together { (first second : List CountedCall) (old mid new : HeldSide)
         → Adds first old mid → Adds second mid new → Adds (first ++ second) old new }
-    ensures returned { (id : LinkId) (delivered : LinkCounters) (begun code : ℕ)
+    ensures returned { (id : LinkId) (delivered : FlatCounters) (begun code : ℕ)
         (calls : List CountedCall) (old first last after : HeldSide)
         → HasBegunCounting old first begun → Adds calls first last
         → ReturnsCounters id delivered last after code
-        → (code ≡ done) × (delivered
-        ≡ counters_of id (with_calls (side_of old.queued.side) calls nothing_counted)) }
+        → (code ≡ done) × (delivered ≡ flat_counters
+        (counters_of id (with_calls (side_of old.queued.side) calls nothing_counted))) }
 {}

@@ -40,20 +40,20 @@ use held_side::HeldSide;
 use lapd_sides::{Durations, LinkId, Request, Side, Tei};
 use lapd_trace::line;
 pub use laws::{codes_are_in_order, counters_are_sums};
-use link_counters::LinkCounters;
+use link_counters::FlatCounters;
 use link_state::LinkState;
 use making::{make_network, make_user};
 use names::{code_name, kind_name, write_text};
 use settings::{Settings, own_tei};
 use std::alloc::Global;
 
-/// The version of the library, 0.1.0: 10,000 times the major version, 100 times the minor one, and
+/// The version of the library, 0.2.0: 10,000 times the major version, 100 times the minor one, and
 /// the patch.
 #[unsafe(no_mangle)]
 pub extern "C" fn lapd_version() -> u32
-    ensures { result ≡ 100 }
+    ensures { result ≡ 200 }
 {
-    100
+    200
 }
 
 /// Creates a network side that holds these TEIs, each 0 to 126, and frees the side that the handle
@@ -412,12 +412,12 @@ pub extern "C" fn lapd_side_counters(
     handle: &mut Handle,
     sapi: u8,
     tei: u8,
-    counters: &mut LinkCounters,
+    counters: &mut FlatCounters,
 ) -> u32
     ensures { ReturnsCountersThrough counters.new result handle.old.held handle.new.held
         (link_of sapi tei) }
 {
-    *counters = LinkCounters::nothing();
+    *counters = FlatCounters::nothing();
     let Some(id) = link_of(sapi, tei) else {
         return OUT_OF_RANGE;
     };

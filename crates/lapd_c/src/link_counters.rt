@@ -1,11 +1,11 @@
 //! The counters of a link.
 
 ghost use Rattle.std.specs.Prelude.{◌≡◌};
-ghost use Rattle.lapd_c.specs.Counters.{after_received, after_report, after_sent, i_frame_sent, is_new, no_count, no_counters};
+ghost use Rattle.lapd_c.specs.Counters.{after_received, after_report, after_sent, flat_counters, i_frame_sent, is_new, no_count, no_counters};
 
 use lapd_frame::Control;
 
-/// The counters of a link in the form that C reads. Each stops at `u64::MAX`.
+/// The counters of a link. Each stops at `u64::MAX`.
 #[repr(C)]
 #[derive(Clone, Copy)]
 pub struct LinkCounters {
@@ -25,6 +25,16 @@ pub struct LinkCounters {
     pub rnr_received: u64,
     /// Reports (MDL-ERROR indications).
     pub reports: u64,
+}
+
+/// The counters of a link in the form that C reads, with room for those of later versions.
+#[repr(C)]
+#[derive(Clone, Copy)]
+pub struct FlatCounters {
+    /// The counters of this version.
+    pub counters: LinkCounters,
+    /// Room for counters of later versions, each 0.
+    pub reserved: [u64; 8],
 }
 
 /// The counters of a link, and the number by which an I frame is new or sent again.
@@ -50,6 +60,25 @@ impl LinkCounters {
             rnr_received: 0,
             reports: 0,
         }
+    }
+}
+
+impl FlatCounters {
+    /// These counters, with room.
+    pub(crate) fn of(counters: LinkCounters) -> FlatCounters
+        ensures { result ≡ flat_counters counters }
+    {
+        FlatCounters {
+            counters,
+            reserved: [0; 8],
+        }
+    }
+
+    /// All counters are 0.
+    pub(crate) fn nothing() -> FlatCounters
+        ensures { result ≡ flat_counters no_counters }
+    {
+        FlatCounters::of(LinkCounters::nothing())
     }
 }
 

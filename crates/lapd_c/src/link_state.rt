@@ -29,6 +29,8 @@ pub struct LinkState {
     pub rejecting: u8,
     /// The number of messages that are neither acknowledged nor dropped, 0 to 1,024.
     pub waiting: u16,
+    /// Room for fields of later versions, each 0.
+    pub reserved: [u64; 2],
 }
 
 impl LinkState {
@@ -46,6 +48,7 @@ impl LinkState {
             own_busy: 0,
             rejecting: 0,
             waiting: 0,
+            reserved: [0; 2],
         }
     }
 
@@ -64,6 +67,7 @@ impl LinkState {
             own_busy: flag(window.own_busy()),
             rejecting: flag(window.rejecting()),
             waiting: link.waiting(),
+            reserved: [0; 2],
         }
     }
 }

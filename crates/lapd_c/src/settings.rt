@@ -2,13 +2,13 @@
 
 ghost use Rattle.std.specs.Prelude.{◌≡◌, ◌<◌, IfOk, IfSome, MatchOption, true, false};
 ghost use Rattle.std.specs.List.{All, list_all};
-ghost use Rattle.lapd_c.specs.Settings.{config_of, network_config, user_config, is_own_tei, own_tei, fixed_tei, is_fixed_tei};
+ghost use Rattle.lapd_c.specs.Settings.{config_of, network_config, user_config, is_own_tei, own_tei, fixed_tei, is_0, is_fixed_tei};
 
 use lapd_sides::{Config, Durations, Params, Tei};
 use std::alloc::{AllocError, Global};
 
 /// The size of [`Settings`] in octets.
-pub const SETTINGS_SIZE: u32 = 40;
+pub const SETTINGS_SIZE: u32 = 64;
 
 /// The configuration of a side.
 #[repr(C)]
@@ -40,6 +40,8 @@ pub struct Settings {
     pub k16: u8,
     /// 0: only SAPI 0 is served. Otherwise SAPI 16 is served too.
     pub sapi16: u8,
+    /// Room for settings of later versions, each 0.
+    pub reserved: [u64; 3],
 }
 
 impl Settings {
@@ -71,7 +73,7 @@ impl Settings {
     fn config(&self) -> Option<Config>
         ensures { result ≡ config_of self.now }
     {
-        if self.size != SETTINGS_SIZE || self.most_waiting == 0 {
+        if self.size != SETTINGS_SIZE || self.most_waiting == 0 || !self.are_reserved_0() {
             return None;
         }
         let params0 = Params::new(self.k0, self.n200, self.room)?;
@@ -84,6 +86,13 @@ impl Settings {
             durations,
             seed: self.seed,
         })
+    }
+
+    /// Whether all room is 0.
+    fn are_reserved_0(&self) -> bool
+        ensures { result ≡ list_all is_0 self.now.reserved }
+    {
+        self.reserved.iter().all(|number| *number == 0)
     }
 }
 
