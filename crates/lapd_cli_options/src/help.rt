@@ -1,6 +1,6 @@
 //! The help texts. The parser prints a command's description, then the usage, the commands and the
 //! options, and then the text that ends the help: a short one with `-h`, the long one with
-//! `--help`. The long ones of the commands are in `command_help`.
+//! `--help`. The long ones of the commands are in `command_help` and `decode_help`.
 
 /// The description of the program.
 pub const ABOUT: &str = "LAPD, the data link layer of the ISDN D channel (ITU-T Q.921)";

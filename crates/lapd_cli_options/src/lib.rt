@@ -11,6 +11,7 @@ mod clock_options;
 pub mod command_help;
 mod command_option;
 mod command_options;
+pub mod decode_help;
 mod decode_options;
 pub mod help;
 mod invocation;

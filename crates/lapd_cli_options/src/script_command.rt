@@ -1,7 +1,7 @@
 //! The commands that execute a script: their names, their help and their options.
 
 use crate::command_option::CommandOption;
-use crate::{command_help, help, option_tables};
+use crate::{command_help, decode_help, help, option_tables};
 
 /// A command that executes a script.
 #[derive(Clone, Copy, PartialEq, Eq)]
@@ -72,7 +72,7 @@ impl ScriptCommand {
             ScriptCommand::Loop => command_help::LOOP,
             ScriptCommand::Net => command_help::NET,
             ScriptCommand::User => command_help::USER,
-            ScriptCommand::Decode => command_help::DECODE,
+            ScriptCommand::Decode => decode_help::DECODE,
         }
     }
 
