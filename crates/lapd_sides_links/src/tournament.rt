@@ -1,6 +1,6 @@
 //! Finds the timer of the links that expires first.
 
-ghost use Rattle.std.specs.Prelude.{◌≡◌, ◌≢◌, ◌≤◌, ◌<◌, ◌*◌, ℕ, ◌/◌, None, IfOk, true};
+ghost use Rattle.std.specs.Prelude.{◌≡◌, ◌≢◌, ◌≤◌, ◌<◌, ◌*◌, ℕ, ◌/◌, None, IfOk, true, replicate};
 ghost use Rattle.lapd_sides_links.specs.Expiries.{IsFirst};
 ghost use Rattle.lapd_sides_links.specs.Places.{IsSooner};
 ghost use Rattle.lapd_sides_links.specs.Tournament.{entry, IsEntered, IsWonBut, IsAlone, HasTop};
@@ -51,7 +51,7 @@ impl Tournament {
         ensures { IfOk result (λ t. (at : ℕ) → entry t at ≡ None) }
     {
         Ok(Tournament {
-            nodes: Vec::from_array(alloc, [None; 2 * PLACES])?,
+            nodes: empty_nodes(alloc)?,
             first: None,
             top: FIRST,
         })
@@ -92,6 +92,16 @@ impl Tournament {
         self.first = nodes[FIRST];
         self.top = FIRST;
     }
+}
+
+/// Nodes without expiries.
+// Written in their places: an array of them would be made twice on the stack, and then copied.
+fn empty_nodes(alloc: Global) -> Result<Vec<Option<RunningTimer>>, AllocError>
+    ensures { IfOk result (λ nodes. nodes.items ≡ replicate (2 * PLACES) None) }
+{
+    let mut nodes = Vec::new(alloc);
+    nodes.resize(2 * PLACES, None)?;
+    Ok(nodes)
 }
 
 /// Updates the nodes above the only slot that is not empty, if the first expiry was taken from
