@@ -35,12 +35,14 @@ use std::alloc::{AllocError, Global};
 /// Each call empties the [`Acts`] that the caller passes, and fills them with its results: the
 /// frames to send and the primitives for the layers above. The side has no clock: the caller passes
 /// the time, in milliseconds.
+// What each frame needs is first in all structs of a side, so that it lies in few lines of the
+// cache. The configuration is last.
 #[derive(Drop)]
 pub struct ManagedSide<M> {
     pub(crate) alloc: Global,
-    pub(crate) config: Config,
     pub(crate) served: LinksAndTimer,
     pub(crate) management: M,
+    pub(crate) config: Config,
 }
 
 impl<M: Management> ManagedSide<M> {

@@ -17,11 +17,12 @@ use std::alloc::{AllocError, Global};
 /// that wait. Its calls are those of [`EitherSide`].
 #[derive(Drop)]
 pub struct QueuedSide {
-    side: EitherSide,
     /// The last results.
     acts: Acts,
     /// The earlier results.
     backlog: Backlog,
+    // The side is last, because most of it is not touched by most calls.
+    side: EitherSide,
 }
 
 impl QueuedSide {
