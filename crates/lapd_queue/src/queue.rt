@@ -1,4 +1,5 @@
-ghost use Rattle.std.specs.Prelude.{◌≡◌, ◌+◌, ◌-◌, ◌<◌, ◌≤◌, ◌==◌, length, map, slice_get, option_copied, Some, IfOk, IfErr, OnOk, OnErr, is_err};
+ghost use Rattle.std.specs.Prelude.{◌≡◌, ◌+◌, ◌-◌, ◌<◌, ◌≤◌, ◌==◌, length, map, drop, slice_get, option_copied, Some, IfOk, IfErr, OnOk, OnErr, is_err};
+ghost use Rattle.circular_buffer.specs.Buffer.{buffer};
 ghost use Rattle.lapd_queue.specs.Waiting.{with_room, with_message, one_more_sent, without_first, all_unsent, emptied};
 
 use arrayvec::ArrayVec;
@@ -155,7 +156,7 @@ impl IQueue {
         ensures were_there { n ≤ length self.old.messages }
     {
         for _ in 0..n {
-            let Some(message) = self.messages.pop_front() else {
+            let Some(message) = pop_first(&mut self.messages) else {
                 unreachable!()
             };
             keep(&mut self.kept, message);
@@ -179,6 +180,20 @@ impl IQueue {
         self.go_back();
         self.messages.clear();
         dropped
+    }
+}
+
+/// Removes the first message. The only one is removed from the back, so that the next message gets
+/// its place: a link that sends one message at a time touches one place of the ring.
+#[inline(always)]
+fn pop_first(messages: &mut HeapCircularBuffer<Vec<u8>>) -> Option<Vec<u8>>
+    ensures value { result ≡ slice_get messages.old.items 0 }
+    ensures items { messages.new ≡ buffer (drop 1 messages.old.items) messages.old.capacity }
+{
+    if messages.len() == 1 {
+        messages.pop_back()
+    } else {
+        messages.pop_front()
     }
 }
 
