@@ -21,11 +21,12 @@ use std::alloc::{AllocError, Global};
 /// A side with the results of its calls that C has not fetched.
 #[derive(Drop)]
 pub struct HeldSide {
-    queued: QueuedSide,
-    /// If this many frames or primitives wait, calls that could add more are refused.
-    most_waiting: u16,
     /// The counters of the links, if the side counts.
     counts: Option<LinkCounts>,
+    /// If this many frames or primitives wait, calls that could add more are refused.
+    most_waiting: u16,
+    // Last, because most of it is not touched by most calls.
+    queued: QueuedSide,
 }
 
 /// The number for no TEI, which is LAPD_NO_TEI in C.
