@@ -64,16 +64,6 @@ last t (o ∷ typed) h e k n =
 
 -- ---- All answers.
 
-pub same_answers : (a : Option (List Answer)) → KeepsAnswers a a
-same_answers None = tt
-same_answers (Some given) = refl
-
-pub both_answers : (a b c : Option (List Answer)) → KeepsAnswers a b → KeepsAnswers b c
-    → KeepsAnswers a c
-both_answers None b c h k = tt
-both_answers (Some x) None c h k = absurd cc
-both_answers (Some x) (Some y) c h k = let e : y ≡ x = cc in rw (← e) k
-
 -- a line was answered, or could not be handled
 answered : {T E : Type 0} (r : Result T E) (t u target : Typing) (given now : Option (List Answer))
     (answers : List Answer) (old new : Option (List ℕ)) → new ≡ old
@@ -116,15 +106,6 @@ last_answered r t u x typed behind given now old new e a b p q tidy same none h 
         → octets ≡ []
     end_of None octets s h = absurd cc
     end_of (Some xs) octets s h = let m : xs ≡ octets = cc in sym m ∙ h
-
--- the session has ended without an answer
-pub ended_answered : (t u : Typing) (given : Option (List Answer)) (old : Option (List ℕ))
-    → u.is_ended ≡ true → IsUsedUp t → t.typed ≡ [] → IsAtEnd old
-    → KeepsAnswers (all_answers_of given t old) (all_answers_of given u old)
-ended_answered t u None old e h none at_end = tt
-ended_answered t u (Some given) None e h none at_end = tt
-ended_answered t u (Some given) (Some octets) e h none at_end =
-    rw (e, used_up t octets h, none, at_end) refl
 
 -- a reader returned octets, or failed after some
 pub more_answered : (t u : Typing) (buf : List ℕ) (given : Option (List Answer))

@@ -94,12 +94,6 @@ pub keeps_refl : (a : Option (List ℕ)) → Keeps a a
 keeps_refl None = tt
 keeps_refl (Some octets) = refl
 
-pub keeps_both : (a b c : Option (List ℕ)) → Keeps a b → Keeps b c → Keeps a c
-keeps_both None b c h k = tt
-keeps_both (Some x) (Some y) (Some z) h k = k ∙ h
-keeps_both (Some x) (Some y) None h k = k
-keeps_both (Some x) None c h k = absurd h
-
 pub whole_kept : (t : Typing) (line behind : List ℕ) (left : Option (List ℕ)) → IsUsedUp t
     → HasNoFeed line → t.typed ≡ line ++ 10 ∷ behind
     → Keeps (option_map (passed_next t) left)
@@ -126,18 +120,6 @@ more_kept t u bs (Some xs) (Some ys) a b c e k =
     ap (λ typed. typed ++ ys) e ∙ append_assoc t.typed bs ys
     ∙ ap (λ octets. t.typed ++ octets) (sym k) in
     rw (a, b, c, same) refl
-
--- the reader is at its end, so nothing more was read
-pub end_kept : (a b c : Option (List ℕ)) (f g : List ℕ → List ℕ) (old new : Option (List ℕ))
-    (bs : List ℕ) → IsAtEnd old → Consumes old new bs
-    → a ≡ option_map f old → b ≡ option_map g new → Keeps a b → (IsAtEnd new → Keeps b c)
-    → Keeps a c
-end_kept a b c f g None new bs at_end k p q m h = rw p tt
-end_kept a b c f g (Some xs) None bs at_end k p q m h = absurd k
-end_kept a b c f g (Some []) (Some []) [] at_end k p q m h = keeps_both a b c m (h refl)
-end_kept a b c f g (Some []) (Some (y ∷ ys)) [] at_end k p q m h = absurd cc
-end_kept a b c f g (Some []) (Some ys) (x ∷ bs) at_end k p q m h = absurd cc
-end_kept a b c f g (Some (x ∷ xs)) (Some ys) bs at_end k p q m h = absurd cc
 
 -- ---- The lines left after a line was handled, or could not be.
 
@@ -166,14 +148,6 @@ pub last_handled : {T E : Type 0} (r : Result T E) (t u : Typing) (x typed behin
 last_handled r t u x typed behind old new e a b tidy same none h at_end k n =
     handled r t u (after_line t x behind) old new e a b
     (rw (tidy, same, none) (last_kept t old h at_end k n))
-
--- the session has ended, and nothing was left
-pub ended_kept : (t u : Typing) (old : Option (List ℕ)) → u.is_ended ≡ true → u.line ≡ t.line
-    → IsUsedUp t → t.typed ≡ [] → IsAtEnd old
-    → Keeps (option_map (passed_next t) old) (option_map (passed_next u) old)
-ended_kept t u None e l h none at_end = tt
-ended_kept t u (Some octets) e l h none at_end =
-    rw (e, l, used_up t octets h, h.line, none, at_end) refl
 
 -- a reader returned octets, or failed after some
 pub more_read : (t u : Typing) (buf : List ℕ) (old new : Option (List ℕ)) → u.script ≡ t.script
