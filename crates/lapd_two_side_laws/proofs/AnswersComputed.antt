@@ -1,22 +1,6 @@
 -- The worked runs of requests, computed.
 use Rattle.std.proofs.Common.{◌≡◌, ℕ, ◌≤◌, ◌<◌, List, [], ◌∷◌, ◌++◌, Option, Some, None, Ok, Bool, true, false, if◌then◌else◌, refl, sym, subst, ◌∙◌, arith}
-use Rattle.lapd_mod128.specs.Counting.{after, steps, lies_within}
-use Rattle.lapd_supervision.specs.StateVariables.{initial_variables, without_exceptions, with_zero_counters, status_frame, acknowledgement, without_ack_pending, poll_response, is_accepted, is_rejected, after_i_frame, i_frame_response, is_valid_nr, with_va, acknowledged_count, acknowledges_all, with_vs, may_send, next_i_frame, after_sending, with_own_busy, with_peer_busy}
-use Rattle.lapd_link_definition.specs.AwaitingEstablishment.{end_establishment, confirm_or_indicate, ua_final, awaiting_establishment_t200, awaiting_establishment}
-use Rattle.lapd_link_definition.specs.AwaitingRelease.{confirm_release, awaiting_release_t200, awaiting_release}
-use Rattle.lapd_link_definition.specs.EndOfStep.{send_all, acknowledge_pending, end_step}
-use Rattle.lapd_link_definition.specs.End.{begin}
-use Rattle.lapd_link_definition.specs.Established.{established_t200, acknowledge_with_timers, i_frame_nr, poll_or_final, rr_nr, rej_nr, rnr_nr, busy_on, busy_off, in_7_and_8, multiple_frame_established}
-use Rattle.lapd_link_definition.specs.Procedures.{put, state_to, rc_to, increment_rc, layer3_initiated_to, release_pending_to, start, stop, expired, clear_exception_conditions, zero_state_variables, set_peer_busy, set_own_busy, enquiry_response, transmit_enquiry, queue_up, discard_i_queue, acknowledge, invoke_retransmission, i_frame_ns, discard_unacknowledged, transmit_i_frame, ensure_t200, transmit_rr, establish_data_link, reestablish_data_link, nr_error_recovery}
-use Rattle.lapd_link_definition.specs.Table.{by_state, report_fault, row, step}
-use Rattle.lapd_link_definition.specs.TeiAssigned.{tei_assigned}
-use Rattle.lapd_link_definition.specs.TimerRecovery.{i_frame_nr_in_recovery, poll, rr_nr_in_recovery, rnr_nr_in_recovery, timer_recovery_t200, timer_recovery}
-use Rattle.lapd_sides_links.specs.Links.{links_below, link_acts, link_expires, in_links, with_tei, without_tei, primitive_of_tei}
-use Rattle.lapd_sides.specs.Management.{manages}
-use Rattle.lapd_sides.specs.SideState.{link_of, expires, takes}
-use Rattle.lapd_sides.specs.Network.{assigner_acts, network_requested}
-use Rattle.lapd_sides.specs.User.{terminal_acts, user_requested}
-use Rattle.lapd_side_events.specs.SideView.{does}
+use Rattle.lapd_sides.specs.User.{user_requested}
 use Rattle.lapd_frame.specs.declared.Sapi.TheVariants.{Call}
 use Rattle.lapd_link_definition.specs.declared.out.Letter.TheVariants as letter
 use Rattle.lapd_sides_links.specs.Links.{of_sapi}
@@ -45,6 +29,7 @@ use Rattle.lapd_sides_links.specs.Links.{Reaction}
 use Rattle.lapd_two_side_laws.specs.ExactTimers.{SideStep}
 use Rattle.lapd_side_events.specs.Interface.{user_behaviour}
 use Rattle.lapd_side_events.specs.SideView.{Expire, Ask}
+use Rattle.lapd_two_side_laws.proofs.ComputedEvents.{computed_events}
 
 pub record AreReached : Type 0 where
   pub establish_accepted : user_requested sides.both_sapis (request.Establish call) 0
@@ -74,23 +59,7 @@ pub record AreReached : Type 0 where
   pub backwards_waits : primitives_of_run backwards [] ≡ []
 
 pub are_reached : AreReached
-unfolding link_acts link_expires in_links with_tei without_tei primitive_of_tei manages
-    assigner_acts link_of takes expires network_requested begin put
-    state_to rc_to increment_rc layer3_initiated_to release_pending_to start stop expired
-    clear_exception_conditions zero_state_variables set_peer_busy set_own_busy enquiry_response
-    transmit_enquiry queue_up discard_i_queue acknowledge invoke_retransmission i_frame_ns
-    discard_unacknowledged transmit_i_frame ensure_t200 transmit_rr establish_data_link
-    reestablish_data_link end_establishment tei_assigned confirm_or_indicate ua_final
-    awaiting_establishment_t200 awaiting_establishment confirm_release awaiting_release_t200
-    awaiting_release acknowledge_with_timers nr_error_recovery i_frame_nr i_frame_nr_in_recovery
-    poll_or_final poll rr_nr rej_nr rnr_nr rr_nr_in_recovery rnr_nr_in_recovery timer_recovery_t200
-    busy_on busy_off in_7_and_8 established_t200 multiple_frame_established timer_recovery by_state
-    report_fault row send_all acknowledge_pending end_step step initial_variables
-    without_exceptions with_zero_counters status_frame acknowledgement without_ack_pending
-    poll_response is_accepted is_rejected after_i_frame i_frame_response is_valid_nr with_va
-    acknowledged_count acknowledges_all with_vs may_send next_i_frame after_sending with_own_busy
-    with_peer_busy after steps lies_within terminal_acts
-    user_requested links_below does
+unfolding computed_events
 are_reached = record {
   establish_accepted = refl;
   establish_waits = refl;
@@ -236,23 +205,7 @@ tei = arriving assignment 6000
 
 pub establish_in_time : AreExpiredInTime 0 (user_behaviour sides.both_sapis) establishing
     three_expiries 4000
-unfolding link_acts link_expires in_links with_tei without_tei primitive_of_tei manages
-    assigner_acts link_of takes expires network_requested begin put
-    state_to rc_to increment_rc layer3_initiated_to release_pending_to start stop expired
-    clear_exception_conditions zero_state_variables set_peer_busy set_own_busy enquiry_response
-    transmit_enquiry queue_up discard_i_queue acknowledge invoke_retransmission i_frame_ns
-    discard_unacknowledged transmit_i_frame ensure_t200 transmit_rr establish_data_link
-    reestablish_data_link end_establishment tei_assigned confirm_or_indicate ua_final
-    awaiting_establishment_t200 awaiting_establishment confirm_release awaiting_release_t200
-    awaiting_release acknowledge_with_timers nr_error_recovery i_frame_nr i_frame_nr_in_recovery
-    poll_or_final poll rr_nr rej_nr rnr_nr rr_nr_in_recovery rnr_nr_in_recovery timer_recovery_t200
-    busy_on busy_off in_7_and_8 established_t200 multiple_frame_established timer_recovery by_state
-    report_fault row send_all acknowledge_pending end_step step initial_variables
-    without_exceptions with_zero_counters status_frame acknowledgement without_ack_pending
-    poll_response is_accepted is_rejected after_i_frame i_frame_response is_valid_nr with_va
-    acknowledged_count acknowledges_all with_vs may_send next_i_frame after_sending with_own_busy
-    with_peer_busy after steps lies_within terminal_acts
-    user_requested links_below does
+unfolding computed_events
 establish_in_time = record {
   at_each = (
     quiet_with (At establishing ([])) 1000 (now_due 1000)
@@ -274,23 +227,7 @@ establish_in_time = record {
 
 pub late_in_time : AreExpiredInTime 10 (user_behaviour sides.both_sapis) establishing
     three_late_expiries 4040
-unfolding link_acts link_expires in_links with_tei without_tei primitive_of_tei manages
-    assigner_acts link_of takes expires network_requested begin put
-    state_to rc_to increment_rc layer3_initiated_to release_pending_to start stop expired
-    clear_exception_conditions zero_state_variables set_peer_busy set_own_busy enquiry_response
-    transmit_enquiry queue_up discard_i_queue acknowledge invoke_retransmission i_frame_ns
-    discard_unacknowledged transmit_i_frame ensure_t200 transmit_rr establish_data_link
-    reestablish_data_link end_establishment tei_assigned confirm_or_indicate ua_final
-    awaiting_establishment_t200 awaiting_establishment confirm_release awaiting_release_t200
-    awaiting_release acknowledge_with_timers nr_error_recovery i_frame_nr i_frame_nr_in_recovery
-    poll_or_final poll rr_nr rej_nr rnr_nr rr_nr_in_recovery rnr_nr_in_recovery timer_recovery_t200
-    busy_on busy_off in_7_and_8 established_t200 multiple_frame_established timer_recovery by_state
-    report_fault row send_all acknowledge_pending end_step step initial_variables
-    without_exceptions with_zero_counters status_frame acknowledgement without_ack_pending
-    poll_response is_accepted is_rejected after_i_frame i_frame_response is_valid_nr with_va
-    acknowledged_count acknowledges_all with_vs may_send next_i_frame after_sending with_own_busy
-    with_peer_busy after steps lies_within terminal_acts
-    user_requested links_below does
+unfolding computed_events
 late_in_time = record {
   at_each = (
     quiet_with (At establishing ([])) 1000 (now_due 1000)
@@ -312,23 +249,7 @@ late_in_time = record {
 
 pub release_in_time : AreExpiredInTime 0 (user_behaviour sides.both_sapis) releasing six_expiries
     8000
-unfolding link_acts link_expires in_links with_tei without_tei primitive_of_tei manages
-    assigner_acts link_of takes expires network_requested begin put
-    state_to rc_to increment_rc layer3_initiated_to release_pending_to start stop expired
-    clear_exception_conditions zero_state_variables set_peer_busy set_own_busy enquiry_response
-    transmit_enquiry queue_up discard_i_queue acknowledge invoke_retransmission i_frame_ns
-    discard_unacknowledged transmit_i_frame ensure_t200 transmit_rr establish_data_link
-    reestablish_data_link end_establishment tei_assigned confirm_or_indicate ua_final
-    awaiting_establishment_t200 awaiting_establishment confirm_release awaiting_release_t200
-    awaiting_release acknowledge_with_timers nr_error_recovery i_frame_nr i_frame_nr_in_recovery
-    poll_or_final poll rr_nr rej_nr rnr_nr rr_nr_in_recovery rnr_nr_in_recovery timer_recovery_t200
-    busy_on busy_off in_7_and_8 established_t200 multiple_frame_established timer_recovery by_state
-    report_fault row send_all acknowledge_pending end_step step initial_variables
-    without_exceptions with_zero_counters status_frame acknowledgement without_ack_pending
-    poll_response is_accepted is_rejected after_i_frame i_frame_response is_valid_nr with_va
-    acknowledged_count acknowledges_all with_vs may_send next_i_frame after_sending with_own_busy
-    with_peer_busy after steps lies_within terminal_acts
-    user_requested links_below does
+unfolding computed_events
 release_in_time = record {
   at_each = (
     quiet_with (At releasing ([])) 1000 (now_due 1000)
@@ -376,23 +297,7 @@ release_in_time = record {
 
 pub without_tei_in_time : AreExpiredInTime 0 (user_behaviour sides.both_sapis) seeking
     late_assignment 10000
-unfolding link_acts link_expires in_links with_tei without_tei primitive_of_tei manages
-    assigner_acts link_of takes expires network_requested begin put
-    state_to rc_to increment_rc layer3_initiated_to release_pending_to start stop expired
-    clear_exception_conditions zero_state_variables set_peer_busy set_own_busy enquiry_response
-    transmit_enquiry queue_up discard_i_queue acknowledge invoke_retransmission i_frame_ns
-    discard_unacknowledged transmit_i_frame ensure_t200 transmit_rr establish_data_link
-    reestablish_data_link end_establishment tei_assigned confirm_or_indicate ua_final
-    awaiting_establishment_t200 awaiting_establishment confirm_release awaiting_release_t200
-    awaiting_release acknowledge_with_timers nr_error_recovery i_frame_nr i_frame_nr_in_recovery
-    poll_or_final poll rr_nr rej_nr rnr_nr rr_nr_in_recovery rnr_nr_in_recovery timer_recovery_t200
-    busy_on busy_off in_7_and_8 established_t200 multiple_frame_established timer_recovery by_state
-    report_fault row send_all acknowledge_pending end_step step initial_variables
-    without_exceptions with_zero_counters status_frame acknowledgement without_ack_pending
-    poll_response is_accepted is_rejected after_i_frame i_frame_response is_valid_nr with_va
-    acknowledged_count acknowledges_all with_vs may_send next_i_frame after_sending with_own_busy
-    with_peer_busy after steps lies_within terminal_acts
-    user_requested links_below does
+unfolding computed_events
 without_tei_in_time = record {
   at_each = (
     quiet_with (At seeking ([])) 2000 tt (λ id apart. tt) (t202_due 2000),
@@ -426,23 +331,7 @@ without_tei_in_time = record {
 }
 
 pub backwards_in_time : AreExpiredInTime 0 (user_behaviour sides.both_sapis) backwards [] 6000
-unfolding link_acts link_expires in_links with_tei without_tei primitive_of_tei manages
-    assigner_acts link_of takes expires network_requested begin put
-    state_to rc_to increment_rc layer3_initiated_to release_pending_to start stop expired
-    clear_exception_conditions zero_state_variables set_peer_busy set_own_busy enquiry_response
-    transmit_enquiry queue_up discard_i_queue acknowledge invoke_retransmission i_frame_ns
-    discard_unacknowledged transmit_i_frame ensure_t200 transmit_rr establish_data_link
-    reestablish_data_link end_establishment tei_assigned confirm_or_indicate ua_final
-    awaiting_establishment_t200 awaiting_establishment confirm_release awaiting_release_t200
-    awaiting_release acknowledge_with_timers nr_error_recovery i_frame_nr i_frame_nr_in_recovery
-    poll_or_final poll rr_nr rej_nr rnr_nr rr_nr_in_recovery rnr_nr_in_recovery timer_recovery_t200
-    busy_on busy_off in_7_and_8 established_t200 multiple_frame_established timer_recovery by_state
-    report_fault row send_all acknowledge_pending end_step step initial_variables
-    without_exceptions with_zero_counters status_frame acknowledgement without_ack_pending
-    poll_response is_accepted is_rejected after_i_frame i_frame_response is_valid_nr with_va
-    acknowledged_count acknowledges_all with_vs may_send next_i_frame after_sending with_own_busy
-    with_peer_busy after steps lies_within terminal_acts
-    user_requested links_below does
+unfolding computed_events
 backwards_in_time = record {
   at_each = tt;
   at_last = quiet_with (At backwards []) 6000 (now_due 6000)

@@ -15,6 +15,7 @@ pub mod Asked
 pub mod OneMove
 pub mod Whole
 pub mod Computed
+pub mod ComputedEvents
 pub mod Reactions
 pub mod Requests
 pub mod LinkOps

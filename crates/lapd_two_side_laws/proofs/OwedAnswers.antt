@@ -27,7 +27,6 @@ use Rattle.lapd_two_side_laws.specs.Answers.{answers}
 use Rattle.lapd_two_side_laws.specs.EndAnswers.{Asked, Establishment, Withdrawal, Clearing, may_release, is_answer, is_answered, is_t200_expiry, is_release}
 use Rattle.lapd_two_side_laws.proofs.EachLink.{HasLinks, after_step, IsKept}
 use Rattle.lapd_two_side_laws.proofs.EndAnswers.{Situation, Establishing, Leaving, Releasing, Owes, OwesBy, IsIn, left, periods, IsNoT200, LeaveT200, RestartT200, Next, one_expiry, next_of, goes_on}
-use Rattle.lapd_two_side_laws.proofs.Reactions.{IsNoExpiry}
 
 -- ---- The deadline of T200 after the outputs of a step.
 
@@ -295,10 +294,6 @@ module _ (asked : Asked) (n : ℕ) (clock : Bool) (len lateness limit : ℕ) whe
           | inl h ↦ inl h
           | inr next ↦ inr (continued same next)
         ]
-
-  not_expiring : (input : Input) → IsNoExpiry input → is_t200_expiry input ≡ false
-  not_expiring (Expiry timer) plain = absurd plain
-  not_expiring input plain = refl
 
   pub owed_is_kept : (id : LinkId) (config : Config) (m now : ℕ) → HasLinks id.sapi
       → IsKept id (may_release asked) (Owed m now) (answers asked) config now

@@ -13,7 +13,7 @@ use Rattle.lapd_link_definition.specs.declared.out.Out.TheVariants.{Up, UnitUp, 
 use Rattle.lapd_link_definition.specs.End.{End, StepState, begin, waiting, runs, with_timer}
 use Rattle.lapd_link_definition.specs.Input.{Input, Expiry}
 use Rattle.lapd_link_definition.specs.Parameters.{Parameters}
-use Rattle.lapd_link_definition.specs.Procedures.{retransmit_last_i_frame, out_where, counted, response_of, put, state_to, rc_to, increment_rc, layer3_initiated_to, release_pending_to, start, stop, expired, clear_exception_conditions, zero_state_variables, set_peer_busy, set_own_busy, enquiry_response, transmit_enquiry, transmit_rr, queue_up, discard_i_queue, acknowledge, invoke_retransmission, discard_unacknowledged, i_frame_ns, transmit_i_frame, ensure_t200}
+use Rattle.lapd_link_definition.specs.Procedures.{out_where, counted, response_of}
 use Rattle.lapd_link_definition.specs.Refusal.{refused}
 use Rattle.lapd_link_definition.specs.EndOfStep.{end_step}
 use Rattle.lapd_link_definition.specs.Table.{row, step}
@@ -22,6 +22,7 @@ use Rattle.lapd_link_definition.proofs.PreservedByStep.{taken}
 use Rattle.lapd_sides_links.specs.Effects.{started, stopped, timed_by, timed}
 use Rattle.lapd_sides_links.specs.Links.{Linked, new_linked}
 use Rattle.lapd_two_side_laws.specs.Projects.{IsTimed}
+use Rattle.lapd_link_definition.proofs.ComputedStep.{each_action}
 
 -- ---- Outputs that start and stop no timer.
 
@@ -146,11 +147,7 @@ module _ (r : Reading) (now : ℕ) (t : Timers) where
 
   pub timed_actions : PreservedByActions r Stopped Timely Timely (λ message. Unit {0}) (Unit {0})
       (Unit {0}) (Unit {0}) (Unit {0}) (λ nr. Unit {0})
-  unfolding put state_to rc_to increment_rc layer3_initiated_to release_pending_to start stop
-      expired clear_exception_conditions zero_state_variables set_peer_busy set_own_busy
-      enquiry_response transmit_enquiry retransmit_last_i_frame transmit_rr queue_up discard_i_queue
-      acknowledge invoke_retransmission discard_unacknowledged i_frame_ns transmit_i_frame
-      ensure_t200
+  unfolding each_action
   timed_actions = record {
     puts = λ out s ok h. quiet s.outs (out ∷ []) _ _ (put_is_still out ok, tt) h;
     unit_ups = λ s u h. quiet s.outs (UnitUp ∷ []) _ _ (tt, tt) h;
