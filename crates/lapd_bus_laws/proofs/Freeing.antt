@@ -25,34 +25,6 @@ use Rattle.lapd_bus_laws.proofs.Sole.{has_so}
 
 -- ---- Who has a TEI in use.
 
--- some terminal passes a test
-record Found {X : Type 0} (p : X → Bool) (xs : List X) : Type 0 where
-  pub at : ℕ
-  pub element : X
-  pub there : slice_get xs at ≡ Some element
-  pub passes : p element ≡ true
-
-found : {X : Type 0} (p : X → Bool) (xs : List X) → list_any p xs ≡ true → Found p xs
-found p [] h = cc
-found p (x ∷ xs) h = elim (either_some (p x) (list_any p xs) h) [
-  | inl it ↦ record { at = 0; element = x; there = refl; passes = it }
-  | inr rest ↦ (let f = found p xs rest in record {
-    at = suc f.at;
-    element = f.element;
-    there =
-        f.there;
-    passes = f.passes;
-  })
-]
-
-pub any_from : {X : Type 0} (p : X → Bool) (xs : List X) (k : ℕ) (x : X) → slice_get xs k ≡ Some x
-    → p x ≡ true → list_any p xs ≡ true
-any_from p [] k x there h = cc
-any_from p (y ∷ ys) zero x there h = (let e : y ≡ x = cc in
-    some_first (p y) (list_any p ys) (subst (λ z. p z ≡ true) (sym e) h))
-any_from p (y ∷ ys) (suc k) x there h = some_second (p y) (list_any p ys)
-    (any_from p ys k x there h)
-
 -- an element that is replaced passes only if the old one did
 any_after_set : {X : Type 0} (p : X → Bool) (xs : List X) (k : ℕ) (old new : X) → slice_get xs k
     ≡ Some old → (p new ≡ true → p old ≡ true) → list_any p (set xs k new) ≡ true → list_any p xs

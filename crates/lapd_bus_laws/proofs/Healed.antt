@@ -97,9 +97,6 @@ module _ (c : Configs) (tei : ℕ) (low : tei < 127) where
   abbrev Healing : Bus → Type 0
   Healing b = IsChecking b ⊎ (Each (Leaves tei) b.terminals ⊎ Healed b)
 
-  alone : (i : ℕ) (b : Bus) → Others (IsNotTaken tei) i b.terminals → Healed b
-  alone i b h = inl (i, h)
-
   -- ---- An event of a terminal, on the bus.
 
   module _ (b : Bus) (j : ℕ) (event : SideEvent) (t : SideView User) (ok : OverhearsNothing event)

@@ -3,22 +3,8 @@ use Rattle.std.proofs.Common.{◌≡◌, inl, inr, ℕ, List, [], ◌∷◌, Boo
 use Rattle.std.specs.Prelude.{Vec, slice_get}
 use Rattle.std.specs.List.{list_any}
 use Rattle.std.specs.declared.alloc.Global.{Global}
-use Rattle.lapd_mod128.specs.Counting.{after, steps, lies_within}
-use Rattle.lapd_supervision.specs.StateVariables.{initial_variables, without_exceptions, with_zero_counters, status_frame, acknowledgement, without_ack_pending, poll_response, is_accepted, is_rejected, after_i_frame, i_frame_response, is_valid_nr, with_va, acknowledged_count, acknowledges_all, with_vs, may_send, next_i_frame, after_sending, with_own_busy, with_peer_busy}
-use Rattle.lapd_link_definition.specs.AwaitingEstablishment.{end_establishment, confirm_or_indicate, ua_final, awaiting_establishment_t200, awaiting_establishment}
-use Rattle.lapd_link_definition.specs.AwaitingRelease.{confirm_release, awaiting_release_t200, awaiting_release}
-use Rattle.lapd_link_definition.specs.EndOfStep.{send_all, acknowledge_pending, end_step}
-use Rattle.lapd_link_definition.specs.End.{begin}
-use Rattle.lapd_link_definition.specs.Established.{established_t200, acknowledge_with_timers, i_frame_nr, poll_or_final, rr_nr, rej_nr, rnr_nr, busy_on, busy_off, in_7_and_8, multiple_frame_established}
-use Rattle.lapd_link_definition.specs.Procedures.{put, state_to, rc_to, increment_rc, layer3_initiated_to, release_pending_to, start, stop, expired, clear_exception_conditions, zero_state_variables, set_peer_busy, set_own_busy, enquiry_response, transmit_enquiry, queue_up, discard_i_queue, acknowledge, invoke_retransmission, i_frame_ns, discard_unacknowledged, transmit_i_frame, ensure_t200, transmit_rr, establish_data_link, reestablish_data_link, nr_error_recovery}
-use Rattle.lapd_link_definition.specs.Table.{by_state, report_fault, row, step}
-use Rattle.lapd_link_definition.specs.TeiAssigned.{tei_assigned}
-use Rattle.lapd_link_definition.specs.TimerRecovery.{i_frame_nr_in_recovery, poll, rr_nr_in_recovery, rnr_nr_in_recovery, timer_recovery_t200, timer_recovery}
-use Rattle.lapd_sides_links.specs.Links.{links_below, link_acts, link_expires, in_links, with_tei, without_tei, primitive_of_tei}
-use Rattle.lapd_sides.specs.Management.{manages}
-use Rattle.lapd_sides.specs.SideState.{link_of, expires, takes}
-use Rattle.lapd_sides.specs.Network.{assigner_acts, network_requested}
-use Rattle.lapd_sides.specs.User.{User, terminal_acts, user_requested}
+use Rattle.lapd_link_definition.specs.Procedures.{start}
+use Rattle.lapd_sides.specs.User.{User}
 use Rattle.lapd_link_definition.specs.declared.out.Letter.{Letter}
 use Rattle.lapd_link_definition.specs.declared.out.Letter.TheVariants as letter
 use Rattle.lapd_link_definition.specs.Reports.{IsExpected}
@@ -27,7 +13,7 @@ use Rattle.lapd_sides_links.specs.declared.primitive.What.{What}
 use Rattle.lapd_sides_links.specs.declared.primitive.What.TheVariants as what
 use Rattle.lapd_two_side_laws.specs.Primitives.{link_primitives, given_to, known_of, IsReceived, IsExpectedOfLink, AreExpectedOfLink}
 use Rattle.lapd_two_side_laws.specs.Schedule.{configs, call, IsMessage}
-use Rattle.lapd_side_events.specs.SideView.{SideView, does}
+use Rattle.lapd_side_events.specs.SideView.{SideView}
 use Rattle.lapd_two_side_laws.proofs.Computed.{Fits, holding, with_both, one_of, differ, received_as}
 use Rattle.lapd_side_events.specs.Bus.{Bus, from_now, bus_step, after_events}
 use Rattle.lapd_bus_laws.specs.HoldingRuns.{IsReceivedByTerminal, IsReceivedByNetwork, KeepsAllButT200, KeepsAllButAssigning, KeepsAllButRequesting, KeepsAllButLeaving, joined, replaced, restarted, from_first, hasty, regained, leaves_sabme, assigns_second, with_old_sabme, answers_old, from_twins, taken_twice}
@@ -38,6 +24,7 @@ use Rattle.lapd_bus_laws.proofs.Apart.{new_are_apart}
 use Rattle.lapd_bus_laws.proofs.Checks.{throughout_by, leaves_alone, leaves_alone_so, timely_for, timely_for_so, assigns_others, assigns_others_so, requests_by_its_own, requests_by_its_own_so, keeps_teis_apart, keeps_teis_apart_so, keeps_holding, keeps_holding_so, no_fixed_is_single, assigns_now_so, only_claimant_so}
 use Rattle.lapd_bus_laws.proofs.Lists.{either_some}
 use Rattle.lapd_sides.specs.Worked as sides
+use Rattle.lapd_two_side_laws.proofs.ComputedEvents.{computed_events}
 
 -- ---- The messages that a terminal received and submitted, and its knowledge, if it exists.
 
@@ -172,23 +159,7 @@ pub record Hasty (first second : Vec ℕ Global) : Type 0 where
 
 hasty_holds : (v w : Vec ℕ Global) (x : Fits v (1 ∷ [])) (y : Fits w (2 ∷ []))
     → Hasty (holding v (1 ∷ []) x) (holding w (2 ∷ []) y)
-unfolding link_acts link_expires in_links with_tei without_tei primitive_of_tei manages
-    assigner_acts link_of takes expires network_requested begin put state_to
-    rc_to increment_rc layer3_initiated_to release_pending_to start stop expired
-    clear_exception_conditions zero_state_variables set_peer_busy set_own_busy enquiry_response
-    transmit_enquiry queue_up discard_i_queue acknowledge invoke_retransmission i_frame_ns
-    discard_unacknowledged transmit_i_frame ensure_t200 transmit_rr establish_data_link
-    reestablish_data_link end_establishment tei_assigned confirm_or_indicate ua_final
-    awaiting_establishment_t200 awaiting_establishment confirm_release awaiting_release_t200
-    awaiting_release acknowledge_with_timers nr_error_recovery i_frame_nr i_frame_nr_in_recovery
-    poll_or_final poll rr_nr rej_nr rnr_nr rr_nr_in_recovery rnr_nr_in_recovery timer_recovery_t200
-    busy_on busy_off in_7_and_8 established_t200 multiple_frame_established timer_recovery by_state
-    report_fault row send_all acknowledge_pending end_step step initial_variables without_exceptions
-    with_zero_counters status_frame acknowledgement without_ack_pending poll_response is_accepted
-    is_rejected after_i_frame i_frame_response is_valid_nr with_va acknowledged_count
-    acknowledges_all with_vs may_send next_i_frame after_sending with_own_busy with_peer_busy after
-    steps lies_within terminal_acts user_requested links_below
-    does
+unfolding computed_events
 hasty_holds v w x y =
     let run = hasty (holding v (1 ∷ []) x) (holding w (2 ∷ []) y) in
     record {
@@ -229,23 +200,7 @@ pub record Regained (first second : Vec ℕ Global) : Type 0 where
 
 regained_holds : (v w : Vec ℕ Global) (x : Fits v (1 ∷ [])) (y : Fits w (2 ∷ []))
     → Regained (holding v (1 ∷ []) x) (holding w (2 ∷ []) y)
-unfolding link_acts link_expires in_links with_tei without_tei primitive_of_tei manages
-    assigner_acts link_of takes expires network_requested begin put state_to
-    rc_to increment_rc layer3_initiated_to release_pending_to start stop expired
-    clear_exception_conditions zero_state_variables set_peer_busy set_own_busy enquiry_response
-    transmit_enquiry queue_up discard_i_queue acknowledge invoke_retransmission i_frame_ns
-    discard_unacknowledged transmit_i_frame ensure_t200 transmit_rr establish_data_link
-    reestablish_data_link end_establishment tei_assigned confirm_or_indicate ua_final
-    awaiting_establishment_t200 awaiting_establishment confirm_release awaiting_release_t200
-    awaiting_release acknowledge_with_timers nr_error_recovery i_frame_nr i_frame_nr_in_recovery
-    poll_or_final poll rr_nr rej_nr rnr_nr rr_nr_in_recovery rnr_nr_in_recovery timer_recovery_t200
-    busy_on busy_off in_7_and_8 established_t200 multiple_frame_established timer_recovery by_state
-    report_fault row send_all acknowledge_pending end_step step initial_variables without_exceptions
-    with_zero_counters status_frame acknowledgement without_ack_pending poll_response is_accepted
-    is_rejected after_i_frame i_frame_response is_valid_nr with_va acknowledged_count
-    acknowledges_all with_vs may_send next_i_frame after_sending with_own_busy with_peer_busy after
-    steps lies_within terminal_acts user_requested links_below
-    does
+unfolding computed_events
 regained_holds v w x y =
     let run = regained (holding v (1 ∷ []) x) (holding w (2 ∷ []) y) in
     record {
@@ -276,23 +231,7 @@ regained_is_not_right first second one two =
 -- ---- Octets of the link are in transit to the network.
 
 old_apart : Throughout configs (KeepsTeisApart configs) leaves_sabme two_terminals
-unfolding link_acts link_expires in_links with_tei without_tei primitive_of_tei manages
-    assigner_acts link_of takes expires network_requested begin put state_to
-    rc_to increment_rc layer3_initiated_to release_pending_to start stop expired
-    clear_exception_conditions zero_state_variables set_peer_busy set_own_busy enquiry_response
-    transmit_enquiry queue_up discard_i_queue acknowledge invoke_retransmission i_frame_ns
-    discard_unacknowledged transmit_i_frame ensure_t200 transmit_rr establish_data_link
-    reestablish_data_link end_establishment tei_assigned confirm_or_indicate ua_final
-    awaiting_establishment_t200 awaiting_establishment confirm_release awaiting_release_t200
-    awaiting_release acknowledge_with_timers nr_error_recovery i_frame_nr i_frame_nr_in_recovery
-    poll_or_final poll rr_nr rej_nr rnr_nr rr_nr_in_recovery rnr_nr_in_recovery timer_recovery_t200
-    busy_on busy_off in_7_and_8 established_t200 multiple_frame_established timer_recovery by_state
-    report_fault row send_all acknowledge_pending end_step step initial_variables without_exceptions
-    with_zero_counters status_frame acknowledgement without_ack_pending poll_response is_accepted
-    is_rejected after_i_frame i_frame_response is_valid_nr with_va acknowledged_count
-    acknowledges_all with_vs may_send next_i_frame after_sending with_own_busy with_peer_busy after
-    steps lies_within terminal_acts user_requested links_below
-    does
+unfolding computed_events
 old_apart = throughout_by configs (KeepsTeisApart configs) (keeps_teis_apart configs)
     (keeps_teis_apart_so configs) leaves_sabme two_terminals refl
 
@@ -313,84 +252,20 @@ old_is_reached = record {
 }
 
 pub old_assigns_apart : KeepsTeisApart configs assigns_second with_old_sabme
-unfolding link_acts link_expires in_links with_tei without_tei primitive_of_tei manages
-    assigner_acts link_of takes expires network_requested begin put state_to
-    rc_to increment_rc layer3_initiated_to release_pending_to start stop expired
-    clear_exception_conditions zero_state_variables set_peer_busy set_own_busy enquiry_response
-    transmit_enquiry queue_up discard_i_queue acknowledge invoke_retransmission i_frame_ns
-    discard_unacknowledged transmit_i_frame ensure_t200 transmit_rr establish_data_link
-    reestablish_data_link end_establishment tei_assigned confirm_or_indicate ua_final
-    awaiting_establishment_t200 awaiting_establishment confirm_release awaiting_release_t200
-    awaiting_release acknowledge_with_timers nr_error_recovery i_frame_nr i_frame_nr_in_recovery
-    poll_or_final poll rr_nr rej_nr rnr_nr rr_nr_in_recovery rnr_nr_in_recovery timer_recovery_t200
-    busy_on busy_off in_7_and_8 established_t200 multiple_frame_established timer_recovery by_state
-    report_fault row send_all acknowledge_pending end_step step initial_variables without_exceptions
-    with_zero_counters status_frame acknowledgement without_ack_pending poll_response is_accepted
-    is_rejected after_i_frame i_frame_response is_valid_nr with_va acknowledged_count
-    acknowledges_all with_vs may_send next_i_frame after_sending with_own_busy with_peer_busy after
-    steps lies_within terminal_acts user_requested links_below
-    does
+unfolding computed_events
 old_assigns_apart = keeps_teis_apart_so configs assigns_second with_old_sabme refl
 
 pub old_assigns : Assigns configs 64 assigns_second with_old_sabme
-unfolding link_acts link_expires in_links with_tei without_tei primitive_of_tei manages
-    assigner_acts link_of takes expires network_requested begin put state_to
-    rc_to increment_rc layer3_initiated_to release_pending_to start stop expired
-    clear_exception_conditions zero_state_variables set_peer_busy set_own_busy enquiry_response
-    transmit_enquiry queue_up discard_i_queue acknowledge invoke_retransmission i_frame_ns
-    discard_unacknowledged transmit_i_frame ensure_t200 transmit_rr establish_data_link
-    reestablish_data_link end_establishment tei_assigned confirm_or_indicate ua_final
-    awaiting_establishment_t200 awaiting_establishment confirm_release awaiting_release_t200
-    awaiting_release acknowledge_with_timers nr_error_recovery i_frame_nr i_frame_nr_in_recovery
-    poll_or_final poll rr_nr rej_nr rnr_nr rr_nr_in_recovery rnr_nr_in_recovery timer_recovery_t200
-    busy_on busy_off in_7_and_8 established_t200 multiple_frame_established timer_recovery by_state
-    report_fault row send_all acknowledge_pending end_step step initial_variables without_exceptions
-    with_zero_counters status_frame acknowledgement without_ack_pending poll_response is_accepted
-    is_rejected after_i_frame i_frame_response is_valid_nr with_va acknowledged_count
-    acknowledges_all with_vs may_send next_i_frame after_sending with_own_busy with_peer_busy after
-    steps lies_within terminal_acts user_requested links_below
-    does
+unfolding computed_events
 old_assigns = assigns_now_so configs 64 assigns_second with_old_sabme refl
 
 pub old_claims : IsOnlyClaimant 64 1 (bus_step configs assigns_second with_old_sabme)
-unfolding link_acts link_expires in_links with_tei without_tei primitive_of_tei manages
-    assigner_acts link_of takes expires network_requested begin put state_to
-    rc_to increment_rc layer3_initiated_to release_pending_to start stop expired
-    clear_exception_conditions zero_state_variables set_peer_busy set_own_busy enquiry_response
-    transmit_enquiry queue_up discard_i_queue acknowledge invoke_retransmission i_frame_ns
-    discard_unacknowledged transmit_i_frame ensure_t200 transmit_rr establish_data_link
-    reestablish_data_link end_establishment tei_assigned confirm_or_indicate ua_final
-    awaiting_establishment_t200 awaiting_establishment confirm_release awaiting_release_t200
-    awaiting_release acknowledge_with_timers nr_error_recovery i_frame_nr i_frame_nr_in_recovery
-    poll_or_final poll rr_nr rej_nr rnr_nr rr_nr_in_recovery rnr_nr_in_recovery timer_recovery_t200
-    busy_on busy_off in_7_and_8 established_t200 multiple_frame_established timer_recovery by_state
-    report_fault row send_all acknowledge_pending end_step step initial_variables without_exceptions
-    with_zero_counters status_frame acknowledgement without_ack_pending poll_response is_accepted
-    is_rejected after_i_frame i_frame_response is_valid_nr with_va acknowledged_count
-    acknowledges_all with_vs may_send next_i_frame after_sending with_own_busy with_peer_busy after
-    steps lies_within terminal_acts user_requested links_below
-    does
+unfolding computed_events
 old_claims = only_claimant_so 64 1 (bus_step configs assigns_second with_old_sabme) refl
 
 pub old_keeps : Throughout configs (KeepsHolding configs call 1) answers_old
     (from_now (bus_step configs assigns_second with_old_sabme))
-unfolding link_acts link_expires in_links with_tei without_tei primitive_of_tei manages
-    assigner_acts link_of takes expires network_requested begin put state_to
-    rc_to increment_rc layer3_initiated_to release_pending_to start stop expired
-    clear_exception_conditions zero_state_variables set_peer_busy set_own_busy enquiry_response
-    transmit_enquiry queue_up discard_i_queue acknowledge invoke_retransmission i_frame_ns
-    discard_unacknowledged transmit_i_frame ensure_t200 transmit_rr establish_data_link
-    reestablish_data_link end_establishment tei_assigned confirm_or_indicate ua_final
-    awaiting_establishment_t200 awaiting_establishment confirm_release awaiting_release_t200
-    awaiting_release acknowledge_with_timers nr_error_recovery i_frame_nr i_frame_nr_in_recovery
-    poll_or_final poll rr_nr rej_nr rnr_nr rr_nr_in_recovery rnr_nr_in_recovery timer_recovery_t200
-    busy_on busy_off in_7_and_8 established_t200 multiple_frame_established timer_recovery by_state
-    report_fault row send_all acknowledge_pending end_step step initial_variables without_exceptions
-    with_zero_counters status_frame acknowledgement without_ack_pending poll_response is_accepted
-    is_rejected after_i_frame i_frame_response is_valid_nr with_va acknowledged_count
-    acknowledges_all with_vs may_send next_i_frame after_sending with_own_busy with_peer_busy after
-    steps lies_within terminal_acts user_requested links_below
-    does
+unfolding computed_events
 old_keeps = throughout_by configs (KeepsHolding configs call 1) (keeps_holding configs call 1)
     (keeps_holding_so configs call 1) answers_old (from_now
     (bus_step configs assigns_second with_old_sabme)) refl
@@ -399,46 +274,14 @@ pub old_is_not_expected : (t : SideView User) → slice_get
     (after_events configs answers_old (from_now (bus_step configs assigns_second
     with_old_sabme))).terminals 1 ≡ Some t → AreExpectedOfLink (link_primitives call t.delivered)
     → ⊥
-unfolding link_acts link_expires in_links with_tei without_tei primitive_of_tei manages
-    assigner_acts link_of takes expires network_requested begin put state_to
-    rc_to increment_rc layer3_initiated_to release_pending_to start stop expired
-    clear_exception_conditions zero_state_variables set_peer_busy set_own_busy enquiry_response
-    transmit_enquiry queue_up discard_i_queue acknowledge invoke_retransmission i_frame_ns
-    discard_unacknowledged transmit_i_frame ensure_t200 transmit_rr establish_data_link
-    reestablish_data_link end_establishment tei_assigned confirm_or_indicate ua_final
-    awaiting_establishment_t200 awaiting_establishment confirm_release awaiting_release_t200
-    awaiting_release acknowledge_with_timers nr_error_recovery i_frame_nr i_frame_nr_in_recovery
-    poll_or_final poll rr_nr rej_nr rnr_nr rr_nr_in_recovery rnr_nr_in_recovery timer_recovery_t200
-    busy_on busy_off in_7_and_8 established_t200 multiple_frame_established timer_recovery by_state
-    report_fault row send_all acknowledge_pending end_step step initial_variables without_exceptions
-    with_zero_counters status_frame acknowledgement without_ack_pending poll_response is_accepted
-    is_rejected after_i_frame i_frame_response is_valid_nr with_va acknowledged_count
-    acknowledges_all with_vs may_send next_i_frame after_sending with_own_busy with_peer_busy after
-    steps lies_within terminal_acts user_requested links_below
-    does
+unfolding computed_events
 old_is_not_expected = unexpected_at (after_events configs answers_old
     (from_now (bus_step configs assigns_second with_old_sabme))) refl
 
 -- ---- A terminal requests by a reference of which an assignment is in transit.
 
 pub twice_keeps : KeepsAllButRequesting call 0 taken_twice from_twins
-unfolding link_acts link_expires in_links with_tei without_tei primitive_of_tei manages
-    assigner_acts link_of takes expires network_requested begin put state_to
-    rc_to increment_rc layer3_initiated_to release_pending_to start stop expired
-    clear_exception_conditions zero_state_variables set_peer_busy set_own_busy enquiry_response
-    transmit_enquiry queue_up discard_i_queue acknowledge invoke_retransmission i_frame_ns
-    discard_unacknowledged transmit_i_frame ensure_t200 transmit_rr establish_data_link
-    reestablish_data_link end_establishment tei_assigned confirm_or_indicate ua_final
-    awaiting_establishment_t200 awaiting_establishment confirm_release awaiting_release_t200
-    awaiting_release acknowledge_with_timers nr_error_recovery i_frame_nr i_frame_nr_in_recovery
-    poll_or_final poll rr_nr rej_nr rnr_nr rr_nr_in_recovery rnr_nr_in_recovery timer_recovery_t200
-    busy_on busy_off in_7_and_8 established_t200 multiple_frame_established timer_recovery by_state
-    report_fault row send_all acknowledge_pending end_step step initial_variables without_exceptions
-    with_zero_counters status_frame acknowledgement without_ack_pending poll_response is_accepted
-    is_rejected after_i_frame i_frame_response is_valid_nr with_va acknowledged_count
-    acknowledges_all with_vs may_send next_i_frame after_sending with_own_busy with_peer_busy after
-    steps lies_within terminal_acts user_requested links_below
-    does
+unfolding computed_events
 twice_keeps = (
   throughout_by configs (λ e b.
       LeavesAlone 64 0 e) (leaves_alone 64 0) (leaves_alone_so 64 0) taken_twice from_twins refl,
@@ -449,45 +292,13 @@ twice_keeps = (
 )
 
 pub twice_is_someone_elses : IsNobodyElses call 0 (after_events configs taken_twice from_twins) → ⊥
-unfolding link_acts link_expires in_links with_tei without_tei primitive_of_tei manages
-    assigner_acts link_of takes expires network_requested begin put state_to
-    rc_to increment_rc layer3_initiated_to release_pending_to start stop expired
-    clear_exception_conditions zero_state_variables set_peer_busy set_own_busy enquiry_response
-    transmit_enquiry queue_up discard_i_queue acknowledge invoke_retransmission i_frame_ns
-    discard_unacknowledged transmit_i_frame ensure_t200 transmit_rr establish_data_link
-    reestablish_data_link end_establishment tei_assigned confirm_or_indicate ua_final
-    awaiting_establishment_t200 awaiting_establishment confirm_release awaiting_release_t200
-    awaiting_release acknowledge_with_timers nr_error_recovery i_frame_nr i_frame_nr_in_recovery
-    poll_or_final poll rr_nr rej_nr rnr_nr rr_nr_in_recovery rnr_nr_in_recovery timer_recovery_t200
-    busy_on busy_off in_7_and_8 established_t200 multiple_frame_established timer_recovery by_state
-    report_fault row send_all acknowledge_pending end_step step initial_variables without_exceptions
-    with_zero_counters status_frame acknowledgement without_ack_pending poll_response is_accepted
-    is_rejected after_i_frame i_frame_response is_valid_nr with_va acknowledged_count
-    acknowledges_all with_vs may_send next_i_frame after_sending with_own_busy with_peer_busy after
-    steps lies_within terminal_acts user_requested links_below
-    does
+unfolding computed_events
 twice_is_someone_elses = someone_elses (after_events configs taken_twice from_twins) refl
 
 -- ---- A terminal joins, or the network restarts.
 
 pub joined_keeps : KeepsAllButLeaving call 0 joined from_first
-unfolding link_acts link_expires in_links with_tei without_tei primitive_of_tei manages
-    assigner_acts link_of takes expires network_requested begin put state_to
-    rc_to increment_rc layer3_initiated_to release_pending_to start stop expired
-    clear_exception_conditions zero_state_variables set_peer_busy set_own_busy enquiry_response
-    transmit_enquiry queue_up discard_i_queue acknowledge invoke_retransmission i_frame_ns
-    discard_unacknowledged transmit_i_frame ensure_t200 transmit_rr establish_data_link
-    reestablish_data_link end_establishment tei_assigned confirm_or_indicate ua_final
-    awaiting_establishment_t200 awaiting_establishment confirm_release awaiting_release_t200
-    awaiting_release acknowledge_with_timers nr_error_recovery i_frame_nr i_frame_nr_in_recovery
-    poll_or_final poll rr_nr rej_nr rnr_nr rr_nr_in_recovery rnr_nr_in_recovery timer_recovery_t200
-    busy_on busy_off in_7_and_8 established_t200 multiple_frame_established timer_recovery by_state
-    report_fault row send_all acknowledge_pending end_step step initial_variables without_exceptions
-    with_zero_counters status_frame acknowledgement without_ack_pending poll_response is_accepted
-    is_rejected after_i_frame i_frame_response is_valid_nr with_va acknowledged_count
-    acknowledges_all with_vs may_send next_i_frame after_sending with_own_busy with_peer_busy after
-    steps lies_within terminal_acts user_requested links_below
-    does
+unfolding computed_events
 joined_keeps = (
   throughout_by configs (IsTimelyFor call 0) (timely_for configs call 0)
       (timely_for_so configs call 0) joined from_first refl,
@@ -498,23 +309,7 @@ joined_keeps = (
 )
 
 pub joined_is_someone_elses : IsNobodyElses call 0 (after_events configs joined from_first) → ⊥
-unfolding link_acts link_expires in_links with_tei without_tei primitive_of_tei manages
-    assigner_acts link_of takes expires network_requested begin put state_to
-    rc_to increment_rc layer3_initiated_to release_pending_to start stop expired
-    clear_exception_conditions zero_state_variables set_peer_busy set_own_busy enquiry_response
-    transmit_enquiry queue_up discard_i_queue acknowledge invoke_retransmission i_frame_ns
-    discard_unacknowledged transmit_i_frame ensure_t200 transmit_rr establish_data_link
-    reestablish_data_link end_establishment tei_assigned confirm_or_indicate ua_final
-    awaiting_establishment_t200 awaiting_establishment confirm_release awaiting_release_t200
-    awaiting_release acknowledge_with_timers nr_error_recovery i_frame_nr i_frame_nr_in_recovery
-    poll_or_final poll rr_nr rej_nr rnr_nr rr_nr_in_recovery rnr_nr_in_recovery timer_recovery_t200
-    busy_on busy_off in_7_and_8 established_t200 multiple_frame_established timer_recovery by_state
-    report_fault row send_all acknowledge_pending end_step step initial_variables without_exceptions
-    with_zero_counters status_frame acknowledgement without_ack_pending poll_response is_accepted
-    is_rejected after_i_frame i_frame_response is_valid_nr with_va acknowledged_count
-    acknowledges_all with_vs may_send next_i_frame after_sending with_own_busy with_peer_busy after
-    steps lies_within terminal_acts user_requested links_below
-    does
+unfolding computed_events
 joined_is_someone_elses = someone_elses (after_events configs joined from_first) refl
 
 pub record Replaced (first second : Vec ℕ Global) : Type 0 where
@@ -528,23 +323,7 @@ pub record Replaced (first second : Vec ℕ Global) : Type 0 where
 
 replaced_holds : (v w : Vec ℕ Global) (x : Fits v (1 ∷ [])) (y : Fits w (2 ∷ []))
     → Replaced (holding v (1 ∷ []) x) (holding w (2 ∷ []) y)
-unfolding link_acts link_expires in_links with_tei without_tei primitive_of_tei manages
-    assigner_acts link_of takes expires network_requested begin put state_to
-    rc_to increment_rc layer3_initiated_to release_pending_to start stop expired
-    clear_exception_conditions zero_state_variables set_peer_busy set_own_busy enquiry_response
-    transmit_enquiry queue_up discard_i_queue acknowledge invoke_retransmission i_frame_ns
-    discard_unacknowledged transmit_i_frame ensure_t200 transmit_rr establish_data_link
-    reestablish_data_link end_establishment tei_assigned confirm_or_indicate ua_final
-    awaiting_establishment_t200 awaiting_establishment confirm_release awaiting_release_t200
-    awaiting_release acknowledge_with_timers nr_error_recovery i_frame_nr i_frame_nr_in_recovery
-    poll_or_final poll rr_nr rej_nr rnr_nr rr_nr_in_recovery rnr_nr_in_recovery timer_recovery_t200
-    busy_on busy_off in_7_and_8 established_t200 multiple_frame_established timer_recovery by_state
-    report_fault row send_all acknowledge_pending end_step step initial_variables without_exceptions
-    with_zero_counters status_frame acknowledgement without_ack_pending poll_response is_accepted
-    is_rejected after_i_frame i_frame_response is_valid_nr with_va acknowledged_count
-    acknowledges_all with_vs may_send next_i_frame after_sending with_own_busy with_peer_busy after
-    steps lies_within terminal_acts user_requested links_below
-    does
+unfolding computed_events
 replaced_holds v w x y =
     let run = replaced (holding v (1 ∷ []) x) (holding w (2 ∷ []) y) in
     record {
@@ -583,23 +362,7 @@ pub record Restarted (first second : Vec ℕ Global) : Type 0 where
 
 restarted_holds : (v w : Vec ℕ Global) (x : Fits v (1 ∷ [])) (y : Fits w (2 ∷ []))
     → Restarted (holding v (1 ∷ []) x) (holding w (2 ∷ []) y)
-unfolding link_acts link_expires in_links with_tei without_tei primitive_of_tei manages
-    assigner_acts link_of takes expires network_requested begin put state_to
-    rc_to increment_rc layer3_initiated_to release_pending_to start stop expired
-    clear_exception_conditions zero_state_variables set_peer_busy set_own_busy enquiry_response
-    transmit_enquiry queue_up discard_i_queue acknowledge invoke_retransmission i_frame_ns
-    discard_unacknowledged transmit_i_frame ensure_t200 transmit_rr establish_data_link
-    reestablish_data_link end_establishment tei_assigned confirm_or_indicate ua_final
-    awaiting_establishment_t200 awaiting_establishment confirm_release awaiting_release_t200
-    awaiting_release acknowledge_with_timers nr_error_recovery i_frame_nr i_frame_nr_in_recovery
-    poll_or_final poll rr_nr rej_nr rnr_nr rr_nr_in_recovery rnr_nr_in_recovery timer_recovery_t200
-    busy_on busy_off in_7_and_8 established_t200 multiple_frame_established timer_recovery by_state
-    report_fault row send_all acknowledge_pending end_step step initial_variables without_exceptions
-    with_zero_counters status_frame acknowledgement without_ack_pending poll_response is_accepted
-    is_rejected after_i_frame i_frame_response is_valid_nr with_va acknowledged_count
-    acknowledges_all with_vs may_send next_i_frame after_sending with_own_busy with_peer_busy after
-    steps lies_within terminal_acts user_requested links_below
-    does
+unfolding computed_events
 restarted_holds v w x y =
     let run = restarted (holding v (1 ∷ []) x) (holding w (2 ∷ []) y) in
     record {
