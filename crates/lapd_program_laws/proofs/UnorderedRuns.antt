@@ -8,22 +8,9 @@ use Rattle.lapd_frame.specs.Address.{other_side}
 use Rattle.lapd_port.specs.declared.port_fault.PortFault.TheVariants.{End}
 use Rattle.lapd_port.specs.Port.{Shows}
 use Rattle.lapd_port.specs.SocketText.{next_frame, socket_text}
-use Rattle.lapd_mod128.specs.Counting.{after, steps, lies_within}
-use Rattle.lapd_supervision.specs.StateVariables.{initial_variables, without_exceptions, with_zero_counters, status_frame, acknowledgement, without_ack_pending, poll_response, is_accepted, is_rejected, after_i_frame, i_frame_response, is_valid_nr, with_va, acknowledged_count, acknowledges_all, with_vs, may_send, next_i_frame, after_sending, with_own_busy, with_peer_busy}
-use Rattle.lapd_link_definition.specs.AwaitingEstablishment.{end_establishment, confirm_or_indicate, ua_final, awaiting_establishment_t200, awaiting_establishment}
-use Rattle.lapd_link_definition.specs.AwaitingRelease.{confirm_release, awaiting_release_t200, awaiting_release}
-use Rattle.lapd_link_definition.specs.EndOfStep.{send_all, acknowledge_pending, end_step}
-use Rattle.lapd_link_definition.specs.End.{begin}
-use Rattle.lapd_link_definition.specs.Established.{established_t200, acknowledge_with_timers, i_frame_nr, poll_or_final, rr_nr, rej_nr, rnr_nr, busy_on, busy_off, in_7_and_8, multiple_frame_established}
-use Rattle.lapd_link_definition.specs.Procedures.{put, state_to, rc_to, increment_rc, layer3_initiated_to, release_pending_to, start, stop, expired, clear_exception_conditions, zero_state_variables, set_peer_busy, set_own_busy, enquiry_response, transmit_enquiry, queue_up, discard_i_queue, acknowledge, invoke_retransmission, i_frame_ns, discard_unacknowledged, transmit_i_frame, ensure_t200, transmit_rr, establish_data_link, reestablish_data_link, nr_error_recovery}
-use Rattle.lapd_link_definition.specs.Table.{by_state, report_fault, row, step}
-use Rattle.lapd_link_definition.specs.TeiAssigned.{tei_assigned}
-use Rattle.lapd_link_definition.specs.TimerRecovery.{i_frame_nr_in_recovery, poll, rr_nr_in_recovery, rnr_nr_in_recovery, timer_recovery_t200, timer_recovery}
-use Rattle.lapd_sides_links.specs.Links.{links_below, link_acts, link_expires, in_links, with_tei, without_tei, primitive_of_tei}
-use Rattle.lapd_sides.specs.Management.{manages}
-use Rattle.lapd_sides.specs.SideState.{link_of, expires, takes}
-use Rattle.lapd_sides.specs.Network.{Network, new_network, assigner_acts, network_requested}
-use Rattle.lapd_sides.specs.User.{User, new_user, seeded, terminal_acts, user_requested}
+use Rattle.lapd_sides.specs.SideState.{takes}
+use Rattle.lapd_sides.specs.Network.{Network, new_network}
+use Rattle.lapd_sides.specs.User.{User, new_user, seeded}
 use Rattle.lapd_link_definition.specs.declared.out.Letter.TheVariants as letter
 use Rattle.lapd_sides_links.specs.declared.primitive.Primitive.{Primitive}
 use Rattle.lapd_sides_links.specs.declared.primitive.Primitive.TheVariants.{Of}
@@ -49,6 +36,7 @@ use Rattle.lapd_program_laws.proofs.Joins.{rest_left}
 use Rattle.lapd_program_laws.proofs.Lines.{Did, HasEvents, network_has, user_has}
 use Rattle.lapd_program_laws.proofs.Prints.{acts_are, acts_lines, acts_read, network_prints, reads_as}
 use Rattle.lapd_program_laws.proofs.WorkedRuns.{HasFrames, IsAt, IsLine, appends_so, asked, frames_at, is_known, known_after, net, never_ends, reads, same_establish, still_frames, usr}
+use Rattle.lapd_two_side_laws.proofs.ComputedEvents.{computed_events}
 
 -- ---- The output of a line that takes a frame.
 
@@ -137,22 +125,7 @@ record UnorderedLines : Type 0 where
   m1_reports : m1.delivered ≡ Of call (what.Report letter.C) ∷ []
 
 unordered_lines : UnorderedLines
-unfolding link_acts link_expires in_links with_tei without_tei primitive_of_tei manages
-    assigner_acts link_of takes expires network_requested begin put state_to rc_to increment_rc
-    layer3_initiated_to release_pending_to start stop expired clear_exception_conditions
-    zero_state_variables set_peer_busy set_own_busy enquiry_response transmit_enquiry queue_up
-    discard_i_queue acknowledge invoke_retransmission i_frame_ns discard_unacknowledged
-    transmit_i_frame ensure_t200 transmit_rr establish_data_link reestablish_data_link
-    end_establishment tei_assigned confirm_or_indicate ua_final awaiting_establishment_t200
-    awaiting_establishment confirm_release awaiting_release_t200 awaiting_release
-    acknowledge_with_timers nr_error_recovery i_frame_nr i_frame_nr_in_recovery poll_or_final poll
-    rr_nr rej_nr rnr_nr rr_nr_in_recovery rnr_nr_in_recovery timer_recovery_t200 busy_on busy_off
-    in_7_and_8 established_t200 multiple_frame_established timer_recovery by_state report_fault row
-    send_all acknowledge_pending end_step step initial_variables without_exceptions
-    with_zero_counters status_frame acknowledgement without_ack_pending poll_response is_accepted
-    is_rejected after_i_frame i_frame_response is_valid_nr with_va acknowledged_count
-    acknowledges_all with_vs may_send next_i_frame after_sending with_own_busy with_peer_busy after
-    steps lies_within terminal_acts user_requested links_below does
+unfolding computed_events
 unordered_lines = record {
   m1_line = (refl, refl);
   m2_line = (refl, refl);
