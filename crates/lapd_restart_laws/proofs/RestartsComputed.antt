@@ -2,34 +2,18 @@
 use Rattle.std.proofs.Common.{◌≡◌, ℕ, [], ◌∷◌, true, false, refl}
 use Rattle.std.specs.Prelude.{Vec}
 use Rattle.std.specs.declared.alloc.Global.{Global}
-use Rattle.lapd_mod128.specs.Counting.{after, steps, lies_within}
-use Rattle.lapd_supervision.specs.StateVariables.{initial_variables, without_exceptions, with_zero_counters, status_frame, acknowledgement, without_ack_pending, poll_response, is_accepted, is_rejected, after_i_frame, i_frame_response, is_valid_nr, with_va, acknowledged_count, acknowledges_all, with_vs, may_send, next_i_frame, after_sending, with_own_busy, with_peer_busy}
-use Rattle.lapd_link_definition.specs.AwaitingEstablishment.{end_establishment, confirm_or_indicate, ua_final, awaiting_establishment_t200, awaiting_establishment}
-use Rattle.lapd_link_definition.specs.AwaitingRelease.{confirm_release, awaiting_release_t200, awaiting_release}
-use Rattle.lapd_link_definition.specs.EndOfStep.{send_all, acknowledge_pending, end_step}
-use Rattle.lapd_link_definition.specs.End.{begin}
-use Rattle.lapd_link_definition.specs.Established.{established_t200, acknowledge_with_timers, i_frame_nr, poll_or_final, rr_nr, rej_nr, rnr_nr, busy_on, busy_off, in_7_and_8, multiple_frame_established}
-use Rattle.lapd_link_definition.specs.Procedures.{put, state_to, rc_to, increment_rc, layer3_initiated_to, release_pending_to, start, stop, expired, clear_exception_conditions, zero_state_variables, set_peer_busy, set_own_busy, enquiry_response, transmit_enquiry, queue_up, discard_i_queue, acknowledge, invoke_retransmission, i_frame_ns, discard_unacknowledged, transmit_i_frame, ensure_t200, transmit_rr, establish_data_link, reestablish_data_link, nr_error_recovery}
-use Rattle.lapd_link_definition.specs.Table.{by_state, report_fault, row, step}
-use Rattle.lapd_link_definition.specs.TeiAssigned.{tei_assigned}
-use Rattle.lapd_link_definition.specs.TimerRecovery.{i_frame_nr_in_recovery, poll, rr_nr_in_recovery, rnr_nr_in_recovery, timer_recovery_t200, timer_recovery}
 use Rattle.lapd_sides_links.specs.declared.primitive.What.TheVariants as what
-use Rattle.lapd_sides_links.specs.Links.{links_below, link_acts, link_expires, in_links, with_tei, without_tei, primitive_of_tei}
-use Rattle.lapd_sides.specs.Management.{manages}
-use Rattle.lapd_sides.specs.SideState.{link_of, expires, takes}
-use Rattle.lapd_sides.specs.Network.{assigner_acts, network_requested}
-use Rattle.lapd_sides.specs.User.{terminal_acts, user_requested}
 use Rattle.lapd_link_definition.specs.declared.out.Letter.TheVariants as letter
 use Rattle.lapd_pair_laws.specs.Schedule.{two_messages}
 use Rattle.lapd_side_events.specs.Interface.{run}
 use Rattle.lapd_two_side_laws.specs.Schedule.{configs, call, at_first, unassigned, IsMessage}
-use Rattle.lapd_side_events.specs.SideView.{does}
 use Rattle.lapd_two_side_laws.specs.Primitives.{link_primitives, given_to, known_of, AreExpectedOfLink}
 use Rattle.lapd_two_side_laws.specs.Projects.{IsReceivedByNetwork}
 use Rattle.lapd_two_side_laws.proofs.Computed.{Fits, holding, with_octets, with_both, second_for_first}
 use Rattle.lapd_restart_laws.specs.RestartPremises.{KeepPremises}
 use Rattle.lapd_restart_laws.specs.RestartRuns.{user_restarts, network_restarts, across_both, tei_lost, next_call, with_restart, KeepInPart, command_sent, command_answered, answer_sent, answer_taken, BringsNoCallBack, HasNoAnswer, HasNoCommand, given_up, comes_back, IsQuietForUser}
 use Rattle.lapd_restart_laws.specs.Restarts.{losses, run_across}
+use Rattle.lapd_two_side_laws.proofs.ComputedEvents.{computed_events}
 
 -- ---- Both sides restart.
 
@@ -48,22 +32,7 @@ across_both_holds : (s t u v : Vec ℕ Global) (w : Fits s (1 ∷ [])) (x : Fits
     (y : Fits u (3 ∷ [])) (z : Fits v (4 ∷ []))
     → AcrossBoth (holding s (1 ∷ []) w) (holding t (2 ∷ []) x) (holding u (3 ∷ []) y)
     (holding v (4 ∷ []) z)
-unfolding link_acts link_expires in_links with_tei without_tei primitive_of_tei manages
-    assigner_acts link_of takes expires network_requested begin put state_to rc_to increment_rc
-    layer3_initiated_to release_pending_to start stop expired clear_exception_conditions
-    zero_state_variables set_peer_busy set_own_busy enquiry_response transmit_enquiry queue_up
-    discard_i_queue acknowledge invoke_retransmission i_frame_ns discard_unacknowledged
-    transmit_i_frame ensure_t200 transmit_rr establish_data_link reestablish_data_link
-    end_establishment tei_assigned confirm_or_indicate ua_final awaiting_establishment_t200
-    awaiting_establishment confirm_release awaiting_release_t200 awaiting_release
-    acknowledge_with_timers nr_error_recovery i_frame_nr i_frame_nr_in_recovery poll_or_final poll
-    rr_nr rej_nr rnr_nr rr_nr_in_recovery rnr_nr_in_recovery timer_recovery_t200 busy_on busy_off
-    in_7_and_8 established_t200 multiple_frame_established timer_recovery by_state report_fault row
-    send_all acknowledge_pending end_step step initial_variables without_exceptions
-    with_zero_counters status_frame acknowledgement without_ack_pending poll_response is_accepted
-    is_rejected after_i_frame i_frame_response is_valid_nr with_va acknowledged_count
-    acknowledges_all with_vs may_send next_i_frame after_sending with_own_busy with_peer_busy after
-    steps lies_within terminal_acts user_requested links_below does losses
+unfolding computed_events losses
 across_both_holds s t u v w x y z = record {
   premises = (
     (tt, λ there. refl),
@@ -175,22 +144,7 @@ pub record TeiLost (message : Vec ℕ Global) : Type 0 where
       ∷ []
 
 tei_lost_holds : (v : Vec ℕ Global) (x : Fits v (1 ∷ [])) → TeiLost (holding v (1 ∷ []) x)
-unfolding link_acts link_expires in_links with_tei without_tei primitive_of_tei manages
-    assigner_acts link_of takes expires network_requested begin put state_to rc_to increment_rc
-    layer3_initiated_to release_pending_to start stop expired clear_exception_conditions
-    zero_state_variables set_peer_busy set_own_busy enquiry_response transmit_enquiry queue_up
-    discard_i_queue acknowledge invoke_retransmission i_frame_ns discard_unacknowledged
-    transmit_i_frame ensure_t200 transmit_rr establish_data_link reestablish_data_link
-    end_establishment tei_assigned confirm_or_indicate ua_final awaiting_establishment_t200
-    awaiting_establishment confirm_release awaiting_release_t200 awaiting_release
-    acknowledge_with_timers nr_error_recovery i_frame_nr i_frame_nr_in_recovery poll_or_final poll
-    rr_nr rej_nr rnr_nr rr_nr_in_recovery rnr_nr_in_recovery timer_recovery_t200 busy_on busy_off
-    in_7_and_8 established_t200 multiple_frame_established timer_recovery by_state report_fault row
-    send_all acknowledge_pending end_step step initial_variables without_exceptions
-    with_zero_counters status_frame acknowledgement without_ack_pending poll_response is_accepted
-    is_rejected after_i_frame i_frame_response is_valid_nr with_va acknowledged_count
-    acknowledges_all with_vs may_send next_i_frame after_sending with_own_busy with_peer_busy after
-    steps lies_within terminal_acts user_requested links_below does losses
+unfolding computed_events losses
 tei_lost_holds v x = record {
   lost_premises = (
     (tt, λ there. refl),
@@ -291,22 +245,7 @@ tei_lost_so = with_octets TeiLost (1 ∷ []) tei_lost_holds
 pub command_keeps : KeepInPart (BringsNoCallBack (run configs command_sent at_first)
     × HasNoAnswer (run configs command_sent at_first)) command_sent network_restarts
     command_answered
-unfolding link_acts link_expires in_links with_tei without_tei primitive_of_tei manages
-    assigner_acts link_of takes expires network_requested begin put state_to rc_to increment_rc
-    layer3_initiated_to release_pending_to start stop expired clear_exception_conditions
-    zero_state_variables set_peer_busy set_own_busy enquiry_response transmit_enquiry queue_up
-    discard_i_queue acknowledge invoke_retransmission i_frame_ns discard_unacknowledged
-    transmit_i_frame ensure_t200 transmit_rr establish_data_link reestablish_data_link
-    end_establishment tei_assigned confirm_or_indicate ua_final awaiting_establishment_t200
-    awaiting_establishment confirm_release awaiting_release_t200 awaiting_release
-    acknowledge_with_timers nr_error_recovery i_frame_nr i_frame_nr_in_recovery poll_or_final poll
-    rr_nr rej_nr rnr_nr rr_nr_in_recovery rnr_nr_in_recovery timer_recovery_t200 busy_on busy_off
-    in_7_and_8 established_t200 multiple_frame_established timer_recovery by_state report_fault row
-    send_all acknowledge_pending end_step step initial_variables without_exceptions
-    with_zero_counters status_frame acknowledgement without_ack_pending poll_response is_accepted
-    is_rejected after_i_frame i_frame_response is_valid_nr with_va acknowledged_count
-    acknowledges_all with_vs may_send next_i_frame after_sending with_own_busy with_peer_busy after
-    steps lies_within terminal_acts user_requested links_below does losses
+unfolding computed_events losses
 command_keeps = (
   ((tt, λ there. refl), tt),
   ((λ had has. refl, refl), ((tt, λ there. refl), ((tt, λ there. refl), tt))),
@@ -316,42 +255,12 @@ pub command_outlasts : AreExpectedOfLink
     (link_primitives call (run_across configs
     (with_restart command_sent network_restarts command_answered)
     at_first).delivered_to_network) → ⊥
-unfolding link_acts link_expires in_links with_tei without_tei primitive_of_tei manages
-    assigner_acts link_of takes expires network_requested begin put state_to rc_to increment_rc
-    layer3_initiated_to release_pending_to start stop expired clear_exception_conditions
-    zero_state_variables set_peer_busy set_own_busy enquiry_response transmit_enquiry queue_up
-    discard_i_queue acknowledge invoke_retransmission i_frame_ns discard_unacknowledged
-    transmit_i_frame ensure_t200 transmit_rr establish_data_link reestablish_data_link
-    end_establishment tei_assigned confirm_or_indicate ua_final awaiting_establishment_t200
-    awaiting_establishment confirm_release awaiting_release_t200 awaiting_release
-    acknowledge_with_timers nr_error_recovery i_frame_nr i_frame_nr_in_recovery poll_or_final poll
-    rr_nr rej_nr rnr_nr rr_nr_in_recovery rnr_nr_in_recovery timer_recovery_t200 busy_on busy_off
-    in_7_and_8 established_t200 multiple_frame_established timer_recovery by_state report_fault row
-    send_all acknowledge_pending end_step step initial_variables without_exceptions
-    with_zero_counters status_frame acknowledgement without_ack_pending poll_response is_accepted
-    is_rejected after_i_frame i_frame_response is_valid_nr with_va acknowledged_count
-    acknowledges_all with_vs may_send next_i_frame after_sending with_own_busy with_peer_busy after
-    steps lies_within terminal_acts user_requested links_below does losses
+unfolding computed_events losses
 command_outlasts h = h.0
 
 pub answer_keeps : KeepInPart (BringsNoCallBack (run configs answer_sent at_first)
     × HasNoCommand (run configs answer_sent at_first)) answer_sent network_restarts answer_taken
-unfolding link_acts link_expires in_links with_tei without_tei primitive_of_tei manages
-    assigner_acts link_of takes expires network_requested begin put state_to rc_to increment_rc
-    layer3_initiated_to release_pending_to start stop expired clear_exception_conditions
-    zero_state_variables set_peer_busy set_own_busy enquiry_response transmit_enquiry queue_up
-    discard_i_queue acknowledge invoke_retransmission i_frame_ns discard_unacknowledged
-    transmit_i_frame ensure_t200 transmit_rr establish_data_link reestablish_data_link
-    end_establishment tei_assigned confirm_or_indicate ua_final awaiting_establishment_t200
-    awaiting_establishment confirm_release awaiting_release_t200 awaiting_release
-    acknowledge_with_timers nr_error_recovery i_frame_nr i_frame_nr_in_recovery poll_or_final poll
-    rr_nr rej_nr rnr_nr rr_nr_in_recovery rnr_nr_in_recovery timer_recovery_t200 busy_on busy_off
-    in_7_and_8 established_t200 multiple_frame_established timer_recovery by_state report_fault row
-    send_all acknowledge_pending end_step step initial_variables without_exceptions
-    with_zero_counters status_frame acknowledgement without_ack_pending poll_response is_accepted
-    is_rejected after_i_frame i_frame_response is_valid_nr with_va acknowledged_count
-    acknowledges_all with_vs may_send next_i_frame after_sending with_own_busy with_peer_busy after
-    steps lies_within terminal_acts user_requested links_below does losses
+unfolding computed_events losses
 answer_keeps = (
   ((tt, λ there. refl), ((tt, λ there. refl), tt)),
   ((λ had has. refl, refl), ((tt, λ there. refl), tt)),
@@ -360,22 +269,7 @@ answer_keeps = (
 pub answer_outlasts : AreExpectedOfLink (link_primitives call
     (run_across configs (with_restart answer_sent network_restarts answer_taken)
     at_first).delivered_to_network) → ⊥
-unfolding link_acts link_expires in_links with_tei without_tei primitive_of_tei manages
-    assigner_acts link_of takes expires network_requested begin put state_to rc_to increment_rc
-    layer3_initiated_to release_pending_to start stop expired clear_exception_conditions
-    zero_state_variables set_peer_busy set_own_busy enquiry_response transmit_enquiry queue_up
-    discard_i_queue acknowledge invoke_retransmission i_frame_ns discard_unacknowledged
-    transmit_i_frame ensure_t200 transmit_rr establish_data_link reestablish_data_link
-    end_establishment tei_assigned confirm_or_indicate ua_final awaiting_establishment_t200
-    awaiting_establishment confirm_release awaiting_release_t200 awaiting_release
-    acknowledge_with_timers nr_error_recovery i_frame_nr i_frame_nr_in_recovery poll_or_final poll
-    rr_nr rej_nr rnr_nr rr_nr_in_recovery rnr_nr_in_recovery timer_recovery_t200 busy_on busy_off
-    in_7_and_8 established_t200 multiple_frame_established timer_recovery by_state report_fault row
-    send_all acknowledge_pending end_step step initial_variables without_exceptions
-    with_zero_counters status_frame acknowledgement without_ack_pending poll_response is_accepted
-    is_rejected after_i_frame i_frame_response is_valid_nr with_va acknowledged_count
-    acknowledges_all with_vs may_send next_i_frame after_sending with_own_busy with_peer_busy after
-    steps lies_within terminal_acts user_requested links_below does losses
+unfolding computed_events losses
 answer_outlasts h = h.0
 
 -- ---- The link exists again.
@@ -395,22 +289,7 @@ pub record ComesBack (first second : Vec ℕ Global) : Type 0 where
 
 comes_back_holds : (v w : Vec ℕ Global) (x : Fits v (1 ∷ [])) (y : Fits w (2 ∷ []))
     → ComesBack (holding v (1 ∷ []) x) (holding w (2 ∷ []) y)
-unfolding link_acts link_expires in_links with_tei without_tei primitive_of_tei manages
-    assigner_acts link_of takes expires network_requested begin put state_to rc_to increment_rc
-    layer3_initiated_to release_pending_to start stop expired clear_exception_conditions
-    zero_state_variables set_peer_busy set_own_busy enquiry_response transmit_enquiry queue_up
-    discard_i_queue acknowledge invoke_retransmission i_frame_ns discard_unacknowledged
-    transmit_i_frame ensure_t200 transmit_rr establish_data_link reestablish_data_link
-    end_establishment tei_assigned confirm_or_indicate ua_final awaiting_establishment_t200
-    awaiting_establishment confirm_release awaiting_release_t200 awaiting_release
-    acknowledge_with_timers nr_error_recovery i_frame_nr i_frame_nr_in_recovery poll_or_final poll
-    rr_nr rej_nr rnr_nr rr_nr_in_recovery rnr_nr_in_recovery timer_recovery_t200 busy_on busy_off
-    in_7_and_8 established_t200 multiple_frame_established timer_recovery by_state report_fault row
-    send_all acknowledge_pending end_step step initial_variables without_exceptions
-    with_zero_counters status_frame acknowledgement without_ack_pending poll_response is_accepted
-    is_rejected after_i_frame i_frame_response is_valid_nr with_va acknowledged_count
-    acknowledges_all with_vs may_send next_i_frame after_sending with_own_busy with_peer_busy after
-    steps lies_within terminal_acts user_requested links_below does losses
+unfolding computed_events losses
 comes_back_holds v w x y = record {
   keeps = (
     (
