@@ -2,28 +2,13 @@
 use Rattle.std.proofs.Common.{◌≡◌, ℕ, List, [], ◌∷◌, Option, Some, None, refl}
 use Rattle.std.specs.Prelude.{Vec, slice_get, map}
 use Rattle.std.specs.declared.alloc.Global.{Global}
-use Rattle.lapd_mod128.specs.Counting.{after, steps, lies_within}
-use Rattle.lapd_supervision.specs.StateVariables.{initial_variables, without_exceptions, with_zero_counters, status_frame, acknowledgement, without_ack_pending, poll_response, is_accepted, is_rejected, after_i_frame, i_frame_response, is_valid_nr, with_va, acknowledged_count, acknowledges_all, with_vs, may_send, next_i_frame, after_sending, with_own_busy, with_peer_busy}
-use Rattle.lapd_link_definition.specs.AwaitingEstablishment.{end_establishment, confirm_or_indicate, ua_final, awaiting_establishment_t200, awaiting_establishment}
-use Rattle.lapd_link_definition.specs.AwaitingRelease.{confirm_release, awaiting_release_t200, awaiting_release}
-use Rattle.lapd_link_definition.specs.EndOfStep.{send_all, acknowledge_pending, end_step}
-use Rattle.lapd_link_definition.specs.End.{begin}
-use Rattle.lapd_link_definition.specs.Established.{established_t200, acknowledge_with_timers, i_frame_nr, poll_or_final, rr_nr, rej_nr, rnr_nr, busy_on, busy_off, in_7_and_8, multiple_frame_established}
-use Rattle.lapd_link_definition.specs.Procedures.{put, state_to, rc_to, increment_rc, layer3_initiated_to, release_pending_to, start, stop, expired, clear_exception_conditions, zero_state_variables, set_peer_busy, set_own_busy, enquiry_response, transmit_enquiry, queue_up, discard_i_queue, acknowledge, invoke_retransmission, i_frame_ns, discard_unacknowledged, transmit_i_frame, ensure_t200, transmit_rr, establish_data_link, reestablish_data_link, nr_error_recovery}
-use Rattle.lapd_link_definition.specs.Table.{by_state, report_fault, row, step}
-use Rattle.lapd_link_definition.specs.TeiAssigned.{tei_assigned}
-use Rattle.lapd_link_definition.specs.TimerRecovery.{i_frame_nr_in_recovery, poll, rr_nr_in_recovery, rnr_nr_in_recovery, timer_recovery_t200, timer_recovery}
-use Rattle.lapd_sides_links.specs.Links.{links_below, link_acts, link_expires, in_links, with_tei, without_tei, primitive_of_tei}
-use Rattle.lapd_sides.specs.Management.{manages}
-use Rattle.lapd_sides.specs.SideState.{link_of, expires, takes}
-use Rattle.lapd_sides.specs.Network.{assigner_acts, network_requested}
-use Rattle.lapd_sides.specs.User.{User, terminal_acts, user_requested}
+use Rattle.lapd_sides.specs.User.{User}
 use Rattle.lapd_link_definition.specs.declared.out.Letter.TheVariants as letter
 use Rattle.lapd_pair_laws.specs.Schedule.{two_messages}
 use Rattle.lapd_sides_links.specs.declared.primitive.What.TheVariants as what
 use Rattle.lapd_two_side_laws.specs.Primitives.{link_primitives, given_to, known_of, AreExpectedOfLink}
 use Rattle.lapd_two_side_laws.specs.Schedule.{configs, IsMessage}
-use Rattle.lapd_side_events.specs.SideView.{SideView, does}
+use Rattle.lapd_side_events.specs.SideView.{SideView}
 use Rattle.lapd_two_side_laws.proofs.Computed.{Fits, holding, with_both, second_for_first}
 use Rattle.lapd_side_events.specs.Bus.{Bus, from_now}
 use Rattle.lapd_bus_laws.specs.HoldingRuns.{IsReceivedByNetwork}
@@ -36,6 +21,7 @@ use Rattle.lapd_bus_restart_laws.specs.BusAcross.{after_across, ThroughoutAcross
 use Rattle.lapd_bus_restart_laws.specs.HoldingsAcross.{OthersJoinWithout, KeepsHoldingAcross}
 use Rattle.lapd_bus_restart_laws.specs.RunsAcross.{across_both, alone, KeepsAllButRestarting, command_outlasts, comes_back}
 use Rattle.lapd_bus_restart_laws.proofs.ChecksAcross.{throughout_by, others_join_without, others_join_without_so, keeps_holding, keeps_holding_so}
+use Rattle.lapd_two_side_laws.proofs.ComputedEvents.{computed_events}
 
 -- ---- Both sides restart.
 
@@ -56,22 +42,7 @@ across_both_holds : (s t u v : Vec ℕ Global) (w : Fits s (1 ∷ [])) (x : Fits
     (y : Fits u (3 ∷ [])) (z : Fits v (4 ∷ []))
     → AcrossBoth (holding s (1 ∷ []) w) (holding t (2 ∷ []) x) (holding u (3 ∷ []) y)
     (holding v (4 ∷ []) z)
-unfolding link_acts link_expires in_links with_tei without_tei primitive_of_tei manages
-    assigner_acts link_of takes expires network_requested begin put state_to rc_to increment_rc
-    layer3_initiated_to release_pending_to start stop expired clear_exception_conditions
-    zero_state_variables set_peer_busy set_own_busy enquiry_response transmit_enquiry queue_up
-    discard_i_queue acknowledge invoke_retransmission i_frame_ns discard_unacknowledged
-    transmit_i_frame ensure_t200 transmit_rr establish_data_link reestablish_data_link
-    end_establishment tei_assigned confirm_or_indicate ua_final awaiting_establishment_t200
-    awaiting_establishment confirm_release awaiting_release_t200 awaiting_release
-    acknowledge_with_timers nr_error_recovery i_frame_nr i_frame_nr_in_recovery poll_or_final poll
-    rr_nr rej_nr rnr_nr rr_nr_in_recovery rnr_nr_in_recovery timer_recovery_t200 busy_on busy_off
-    in_7_and_8 established_t200 multiple_frame_established timer_recovery by_state report_fault row
-    send_all acknowledge_pending end_step step initial_variables without_exceptions
-    with_zero_counters status_frame acknowledgement without_ack_pending poll_response is_accepted
-    is_rejected after_i_frame i_frame_response is_valid_nr with_va acknowledged_count
-    acknowledges_all with_vs may_send next_i_frame after_sending with_own_busy with_peer_busy after
-    steps lies_within terminal_acts user_requested links_below does losses
+unfolding computed_events losses
 across_both_holds s t u v w x y z = record {
   keeps = throughout_by configs (KeepsHoldingAcross configs fixed_call 0)
       (keeps_holding configs fixed_call 0) (keeps_holding_so configs fixed_call 0)
@@ -91,43 +62,13 @@ across_both_so first answer second third one two three four =
     first answer one two
 
 pub fixed_only : IsOnlyClaimant 0 0 two_fixed
-unfolding link_acts link_expires in_links with_tei without_tei primitive_of_tei manages
-    assigner_acts link_of takes expires network_requested begin put state_to rc_to increment_rc
-    layer3_initiated_to release_pending_to start stop expired clear_exception_conditions
-    zero_state_variables set_peer_busy set_own_busy enquiry_response transmit_enquiry queue_up
-    discard_i_queue acknowledge invoke_retransmission i_frame_ns discard_unacknowledged
-    transmit_i_frame ensure_t200 transmit_rr establish_data_link reestablish_data_link
-    end_establishment tei_assigned confirm_or_indicate ua_final awaiting_establishment_t200
-    awaiting_establishment confirm_release awaiting_release_t200 awaiting_release
-    acknowledge_with_timers nr_error_recovery i_frame_nr i_frame_nr_in_recovery poll_or_final poll
-    rr_nr rej_nr rnr_nr rr_nr_in_recovery rnr_nr_in_recovery timer_recovery_t200 busy_on busy_off
-    in_7_and_8 established_t200 multiple_frame_established timer_recovery by_state report_fault row
-    send_all acknowledge_pending end_step step initial_variables without_exceptions
-    with_zero_counters status_frame acknowledgement without_ack_pending poll_response is_accepted
-    is_rejected after_i_frame i_frame_response is_valid_nr with_va acknowledged_count
-    acknowledges_all with_vs may_send next_i_frame after_sending with_own_busy with_peer_busy after
-    steps lies_within terminal_acts user_requested links_below does losses
+unfolding computed_events losses
 fixed_only = only_claimant_so 0 0 two_fixed refl
 
 -- ---- A frame of an exchange is in transit.
 
 pub command_keeps : KeepsAllButRestarting fixed_call 0 command_outlasts alone
-unfolding link_acts link_expires in_links with_tei without_tei primitive_of_tei manages
-    assigner_acts link_of takes expires network_requested begin put state_to rc_to increment_rc
-    layer3_initiated_to release_pending_to start stop expired clear_exception_conditions
-    zero_state_variables set_peer_busy set_own_busy enquiry_response transmit_enquiry queue_up
-    discard_i_queue acknowledge invoke_retransmission i_frame_ns discard_unacknowledged
-    transmit_i_frame ensure_t200 transmit_rr establish_data_link reestablish_data_link
-    end_establishment tei_assigned confirm_or_indicate ua_final awaiting_establishment_t200
-    awaiting_establishment confirm_release awaiting_release_t200 awaiting_release
-    acknowledge_with_timers nr_error_recovery i_frame_nr i_frame_nr_in_recovery poll_or_final poll
-    rr_nr rej_nr rnr_nr rr_nr_in_recovery rnr_nr_in_recovery timer_recovery_t200 busy_on busy_off
-    in_7_and_8 established_t200 multiple_frame_established timer_recovery by_state report_fault row
-    send_all acknowledge_pending end_step step initial_variables without_exceptions
-    with_zero_counters status_frame acknowledgement without_ack_pending poll_response is_accepted
-    is_rejected after_i_frame i_frame_response is_valid_nr with_va acknowledged_count
-    acknowledges_all with_vs may_send next_i_frame after_sending with_own_busy with_peer_busy after
-    steps lies_within terminal_acts user_requested links_below does losses
+unfolding computed_events losses
 command_keeps = (
   throughout_by configs (λ e b. IsOfBus e) of_bus of_bus_so command_outlasts alone refl,
   throughout_by configs (λ e b. OthersJoinWithout 0 0 e) (others_join_without 0 0)
@@ -142,22 +83,7 @@ command_keeps = (
 
 pub command_is_not_expected : AreExpectedOfLink
     (link_primitives fixed_call (after_across configs command_outlasts alone).delivered) → ⊥
-unfolding link_acts link_expires in_links with_tei without_tei primitive_of_tei manages
-    assigner_acts link_of takes expires network_requested begin put state_to rc_to increment_rc
-    layer3_initiated_to release_pending_to start stop expired clear_exception_conditions
-    zero_state_variables set_peer_busy set_own_busy enquiry_response transmit_enquiry queue_up
-    discard_i_queue acknowledge invoke_retransmission i_frame_ns discard_unacknowledged
-    transmit_i_frame ensure_t200 transmit_rr establish_data_link reestablish_data_link
-    end_establishment tei_assigned confirm_or_indicate ua_final awaiting_establishment_t200
-    awaiting_establishment confirm_release awaiting_release_t200 awaiting_release
-    acknowledge_with_timers nr_error_recovery i_frame_nr i_frame_nr_in_recovery poll_or_final poll
-    rr_nr rej_nr rnr_nr rr_nr_in_recovery rnr_nr_in_recovery timer_recovery_t200 busy_on busy_off
-    in_7_and_8 established_t200 multiple_frame_established timer_recovery by_state report_fault row
-    send_all acknowledge_pending end_step step initial_variables without_exceptions
-    with_zero_counters status_frame acknowledgement without_ack_pending poll_response is_accepted
-    is_rejected after_i_frame i_frame_response is_valid_nr with_va acknowledged_count
-    acknowledges_all with_vs may_send next_i_frame after_sending with_own_busy with_peer_busy after
-    steps lies_within terminal_acts user_requested links_below does losses
+unfolding computed_events losses
 command_is_not_expected h = h.0
 
 -- ---- The link exists again.
@@ -193,22 +119,7 @@ pub record ComesBack (first second : Vec ℕ Global) : Type 0 where
 
 comes_back_holds : (v w : Vec ℕ Global) (x : Fits v (1 ∷ [])) (y : Fits w (2 ∷ []))
     → ComesBack (holding v (1 ∷ []) x) (holding w (2 ∷ []) y)
-unfolding link_acts link_expires in_links with_tei without_tei primitive_of_tei manages
-    assigner_acts link_of takes expires network_requested begin put state_to rc_to increment_rc
-    layer3_initiated_to release_pending_to start stop expired clear_exception_conditions
-    zero_state_variables set_peer_busy set_own_busy enquiry_response transmit_enquiry queue_up
-    discard_i_queue acknowledge invoke_retransmission i_frame_ns discard_unacknowledged
-    transmit_i_frame ensure_t200 transmit_rr establish_data_link reestablish_data_link
-    end_establishment tei_assigned confirm_or_indicate ua_final awaiting_establishment_t200
-    awaiting_establishment confirm_release awaiting_release_t200 awaiting_release
-    acknowledge_with_timers nr_error_recovery i_frame_nr i_frame_nr_in_recovery poll_or_final poll
-    rr_nr rej_nr rnr_nr rr_nr_in_recovery rnr_nr_in_recovery timer_recovery_t200 busy_on busy_off
-    in_7_and_8 established_t200 multiple_frame_established timer_recovery by_state report_fault row
-    send_all acknowledge_pending end_step step initial_variables without_exceptions
-    with_zero_counters status_frame acknowledgement without_ack_pending poll_response is_accepted
-    is_rejected after_i_frame i_frame_response is_valid_nr with_va acknowledged_count
-    acknowledges_all with_vs may_send next_i_frame after_sending with_own_busy with_peer_busy after
-    steps lies_within terminal_acts user_requested links_below does losses
+unfolding computed_events losses
 comes_back_holds v w x y =
     let run = comes_back (holding v (1 ∷ []) x) (holding w (2 ∷ []) y) in
     record {
