@@ -1,3 +1,4 @@
+pub mod ComputedRemarks
 pub mod Bounds
 pub mod Counted
 pub mod Kept
