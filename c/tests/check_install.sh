@@ -9,7 +9,7 @@ rm -rf "$place"
 to="PREFIX=/usr LIBDIR=/usr/lib64 DESTDIR=$place"
 make -s install $to
 (cd "$place" && find . ! -type d | sort) >out/files
-diff - out/files <<END
+sort <<END | diff - out/files
 ./usr/include/lapd.h
 ./usr/include/lapd_heap.h
 ./usr/lib64/liblapd.a
