@@ -64,8 +64,8 @@ extern "C" {
  *     know.
  * Any other change raises LAPD_ABI and the minor or major version. "Since" names the version that
  * first had a call. A version with a greater patch number changes nothing here. */
-#define LAPD_VERSION_STRING "0.2.0"
-#define LAPD_VERSION 200
+#define LAPD_VERSION_STRING "0.3.0"
+#define LAPD_VERSION 300
 #define LAPD_ABI 1
 
 /* LAPD_MUST_USE marks a call whose result must not be ignored: if it is not LAPD_DONE, a frame or a
@@ -197,6 +197,23 @@ typedef struct lapd_settings {
 #define LAPD_PRIMARY \
 	{ sizeof(lapd_settings), 1000, 1000, 2000, 10000, 512, 1024, 0, 3, 7, 7, 0, { 0, 0, 0 } }
 
+/* The settings that can be out of range, for lapd_settings_check. */
+enum lapd_setting {
+	LAPD_SETTING_NONE = 0,         /* each setting is in its range */
+	LAPD_SETTING_SIZE = 1,         /* the header of the program has another LAPD_ABI, or the settings
+	                                * do not begin with LAPD_BASIC or LAPD_PRIMARY */
+	LAPD_SETTING_T200 = 2,
+	LAPD_SETTING_T201 = 3,
+	LAPD_SETTING_T202 = 4,
+	LAPD_SETTING_T203 = 5,
+	LAPD_SETTING_ROOM = 6,
+	LAPD_SETTING_MOST_WAITING = 7,
+	LAPD_SETTING_N200 = 8,
+	LAPD_SETTING_K0 = 9,
+	LAPD_SETTING_K16 = 10,
+	LAPD_SETTING_RESERVED = 11     /* as if the library is older than the program */
+};
+
 typedef struct lapd_primitive {
 	uint8_t kind;    /* enum lapd_kind */
 	uint8_t sapi;    /* 0 or 16; 63 for TEI management */
@@ -250,6 +267,12 @@ typedef struct lapd_link_counters {
 
 /* The number of the library, as LAPD_VERSION. Since 0.1. */
 uint32_t lapd_version(void);
+
+/* Checks settings, before a side is created or if that returned LAPD_OUT_OF_RANGE. *setting is a
+ * number of enum lapd_setting: 0 if all are in their ranges, else one that is not, and
+ * LAPD_SETTING_SIZE before all others. LAPD_OUT_OF_RANGE: a setting is out of range. The call needs
+ * no side. Since 0.3. */
+lapd_result lapd_settings_check(const lapd_settings *settings, uint8_t *setting);
 
 /* Creates a network side that holds `count` TEIs, each 0 to 126, whose links exist from the start;
  * other TEIs are assigned on request. A TEI that is listed twice counts once. Frees the side that
@@ -356,6 +379,17 @@ lapd_result lapd_side_discarded(const lapd_side *side, uint64_t *count);
 lapd_result lapd_side_state(const lapd_side *side, uint8_t sapi, uint8_t tei,
 	lapd_link_state *state);
 
+/* Writes the TEIs that a network side holds, 0 to 126, or the TEI that a user side has, to the
+ * beginning of the buffer: each once, in ascending order. *count is their number, at most 127. A
+ * network side can be created with this list after a restart. LAPD_OUT_OF_RANGE: there are more
+ * than `size`, and nothing is written to the buffer. Since 0.3. */
+lapd_result lapd_side_teis(const lapd_side *side, uint8_t *teis, size_t size, size_t *count);
+
+/* Writes the TEIs of the links that exist with a SAPI, 0, 16 or 63, like lapd_side_teis.
+ * LAPD_OUT_OF_RANGE is returned for another SAPI too, and *count is 0. Since 0.3. */
+lapd_result lapd_side_links(const lapd_side *side, uint8_t sapi, uint8_t *teis, size_t size,
+	size_t *count);
+
 /* Begins to count the I frames, REJ, RNR and reports of each link, from 0; if the side counts
  * already, it counts from 0 again. It allocates about 28000 octets, until the side is freed. A new
  * side does not count. LAPD_NO_MEMORY: nothing is changed. Since 0.1. */
@@ -453,6 +487,25 @@ static inline const char *lapd_kind_string(uint8_t kind)
 	case LAPD_TEI_IN_USE: return "LAPD_TEI_IN_USE";
 	case LAPD_TEI_DOUBLED: return "LAPD_TEI_DOUBLED";
 	case LAPD_FRAME: return "LAPD_FRAME";
+	default: return "";
+	}
+}
+
+/* The name of a setting, as it is spelled in lapd_settings. Since 0.3. */
+static inline const char *lapd_setting_string(uint8_t setting)
+{
+	switch (setting) {
+	case LAPD_SETTING_SIZE: return "size";
+	case LAPD_SETTING_T200: return "t200";
+	case LAPD_SETTING_T201: return "t201";
+	case LAPD_SETTING_T202: return "t202";
+	case LAPD_SETTING_T203: return "t203";
+	case LAPD_SETTING_ROOM: return "room";
+	case LAPD_SETTING_MOST_WAITING: return "most_waiting";
+	case LAPD_SETTING_N200: return "n200";
+	case LAPD_SETTING_K0: return "k0";
+	case LAPD_SETTING_K16: return "k16";
+	case LAPD_SETTING_RESERVED: return "reserved";
 	default: return "";
 	}
 }

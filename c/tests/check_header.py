@@ -26,7 +26,7 @@ FILES = {
 # Parameters with another name in C, because the crate's name would be less clear.
 NAMES = {"handle": "side", "known": "teis", "fixed": "tei", "delivered": "primitive"}
 # The clauses of the crate by which a call leaves the side unchanged.
-QUERIES = r"Returns(?:Deadline|Discarded|Terminal|StateOf|CountersThrough)\b"
+QUERIES = r"Returns(?:Deadline|Discarded|Terminal|Teis|StateOf|LinksThrough|CountersThrough)\b"
 # The symbols that the archive may require of the program that it is linked into.
 ASKED = {"memcpy", "memmove", "memset", "memcmp", "bcmp", "malloc", "realloc", "free"}
 HEAP = {"rattle_alloc", "rattle_realloc", "rattle_dealloc"}
@@ -157,6 +157,10 @@ def main():
     kinds = numbers_of_rattle(re.sub(r"127", "0", source("flat_primitive")), r"(?:(?:What|TeiOut)::\w+(?:\(\w+\))? =>|u8 =) (\d+)")
     if kinds != numbers_of_c(text, "lapd_kind"):
         wrong.append(f"kinds: the crate has {kinds}")
+    body = re.search(r"fn wrong_setting.*?\n    \}\n", source("settings"), re.S)[0]
+    settings = numbers_of_rattle(body, r"\n +(\d+)\n")
+    if settings != numbers_of_c(text, "lapd_setting"):
+        wrong.append(f"settings: the crate has {settings}")
     for function, enum in (("code_name", "lapd_code"), ("kind_name", "lapd_kind")):
         names = names_of_rattle(source("names"), function)
         if names != names_of_c(text, enum):

@@ -51,6 +51,78 @@ static void all_are_out_of_range(lapd_side *side)
 	WANT(counters.sent == 0 && counters.reports == 0);
 }
 
+/* A list of TEIs, those of the side or, with a SAPI, of its links: as text with a space before each.
+ * A buffer that is too small for it is unchanged. */
+static void a_list(lapd_side *side, int sapi, const char *wanted)
+{
+	uint8_t teis[128];
+	char text[512] = "";
+	size_t count = 999, at, none = 0;
+	uint32_t code;
+
+	memset(teis, 0xa5, sizeof teis);
+	DONE(sapi < 0 ? lapd_side_teis(side, teis, sizeof teis, &count) : lapd_side_links(side, (uint8_t)sapi, teis, sizeof teis, &count));
+	for (at = 0; at < count; at++)
+		sprintf(text + strlen(text), " %u", teis[at]);
+	if (strcmp(text, wanted) != 0) {
+		fprintf(stderr, "TEIs of SAPI %d: wanted%s, given%s\n", sapi, wanted, text);
+		exit(1);
+	}
+	WANT(count == sizeof teis || teis[count] == 0xa5);
+	if (count == 0) {
+		DONE(sapi < 0 ? lapd_side_teis(side, NULL, 0, &none) : lapd_side_links(side, (uint8_t)sapi, NULL, 0, &none));
+		return;
+	}
+	memset(teis, 0xa5, sizeof teis);
+	code = sapi < 0 ? lapd_side_teis(side, teis, count - 1, &none) : lapd_side_links(side, (uint8_t)sapi, teis, count - 1, &none);
+	WANT(code == LAPD_OUT_OF_RANGE && none == count && teis[0] == 0xa5);
+}
+
+/* The TEIs of a side, and those of its links, as they change. */
+static void lists(lapd_side *side)
+{
+	lapd_settings settings = LAPD_BASIC;
+	const uint8_t teis[] = { 70, 5, 126, 5, 0 };
+	uint8_t all[127], found[128];
+	size_t count = 0, at;
+
+	for (at = 0; at < sizeof all; at++)
+		all[at] = (uint8_t)at;
+	DONE(lapd_side_network(side, &settings, NULL, 0));
+	a_list(side, -1, "");
+	a_list(side, 0, "");
+	DONE(lapd_side_network(side, &settings, teis, sizeof teis));
+	a_list(side, -1, " 0 5 70 126");
+	a_list(side, 0, " 0 5 70 126");
+	a_list(side, 16, "");
+	a_list(side, 63, "");
+	DONE(lapd_side_take(side, (const uint8_t *)"\xfc\xff\x03\x0f\x12\x34\x01\xff", 8, 0)); /* a TEI is requested */
+	a_list(side, -1, " 0 5 64 70 126");
+	DONE(lapd_side_remove_tei(side, 70, 0));
+	a_list(side, -1, " 0 5 64 126");
+	a_list(side, 0, " 0 5 64 126");
+	settings.sapi16 = 1;
+	DONE(lapd_side_network(side, &settings, teis, 2));
+	a_list(side, 16, " 5 70");
+	DONE(lapd_side_network(side, &settings, all, sizeof all));
+	DONE(lapd_side_teis(side, found, sizeof found, &count));
+	WANT(count == sizeof all && memcmp(found, all, sizeof all) == 0);
+	DONE(lapd_side_links(side, 16, found, sizeof all, &count));
+	WANT(count == sizeof all && memcmp(found, all, sizeof all) == 0);
+	DONE(lapd_side_user(side, &settings, LAPD_NO_TEI));
+	a_list(side, -1, "");
+	a_list(side, 0, "");
+	DONE(lapd_side_user(side, &settings, 9));
+	a_list(side, -1, " 9");
+	a_list(side, 0, " 9");
+	a_list(side, 16, " 9");
+	WANT_CODE(lapd_side_links(side, 1, found, sizeof found, &count), LAPD_OUT_OF_RANGE);
+	WANT(count == 0);
+	DONE(lapd_side_remove_tei(side, 9, 0));
+	a_list(side, -1, "");
+	a_list(side, 0, "");
+}
+
 static void no_side(lapd_side *side)
 {
 	lapd_primitive delivered;
@@ -64,6 +136,12 @@ static void no_side(lapd_side *side)
 	memset(&state, 1, sizeof state);
 	all_return(side, LAPD_NO_SIDE);
 	all_are_out_of_range(side);
+	WANT_CODE(lapd_side_teis(side, buffer, sizeof buffer, &length), LAPD_NO_SIDE);
+	WANT(length == 0);
+	length = 1;
+	WANT_CODE(lapd_side_links(side, 0, buffer, sizeof buffer, &length), LAPD_NO_SIDE);
+	WANT(length == 0);
+	WANT_CODE(lapd_side_links(side, 2, buffer, sizeof buffer, &length), LAPD_OUT_OF_RANGE);
 	WANT_CODE(lapd_side_deadline(side, &moment), LAPD_NO_SIDE);
 	WANT(moment == LAPD_NEVER);
 	WANT_CODE(lapd_side_discarded(side, &count), LAPD_NO_SIDE);
@@ -87,9 +165,14 @@ static void no_side(lapd_side *side)
 	WANT(phase == 0 && tei == LAPD_NO_TEI);
 }
 
-/* Settings with one number out of range: no side is created, and the handle is unchanged. */
-static void not_made(lapd_side *side, const lapd_settings *settings)
+/* Settings with one number out of range: it is named, no side is created, and the handle is
+ * unchanged. */
+static void not_made(lapd_side *side, const lapd_settings *settings, const char *wanted)
 {
+	uint8_t setting = 0;
+
+	WANT_CODE(lapd_settings_check(settings, &setting), LAPD_OUT_OF_RANGE);
+	WANT(strcmp(lapd_setting_string(setting), wanted) == 0);
 	WANT_CODE(lapd_side_network(side, settings, message, 0), LAPD_OUT_OF_RANGE);
 	WANT_CODE(lapd_side_user(side, settings, LAPD_NO_TEI), LAPD_OUT_OF_RANGE);
 }
@@ -99,23 +182,29 @@ static void ranges(lapd_side *side)
 	const lapd_settings basic = LAPD_BASIC;
 	const uint8_t group = LAPD_GROUP_TEI;
 	lapd_settings s;
+	uint8_t setting = 9;
 
-	s = basic, s.size = 0, not_made(side, &s);
-	s = basic, s.size -= 1, not_made(side, &s);
-	s = basic, s.size += 8, not_made(side, &s);
-	s = basic, s.t200 = 0, not_made(side, &s);
-	s = basic, s.t201 = 3600001, not_made(side, &s);
-	s = basic, s.t202 = 0, not_made(side, &s);
-	s = basic, s.t203 = UINT32_MAX, not_made(side, &s);
-	s = basic, s.room = 0, not_made(side, &s);
-	s = basic, s.room = 1025, not_made(side, &s);
-	s = basic, s.most_waiting = 0, not_made(side, &s);
-	s = basic, s.n200 = 0, not_made(side, &s);
-	s = basic, s.n200 = 101, not_made(side, &s);
-	s = basic, s.k0 = 0, not_made(side, &s);
-	s = basic, s.k16 = 128, not_made(side, &s);
-	s = basic, s.reserved[0] = 1, not_made(side, &s);
-	s = basic, s.reserved[2] = UINT64_MAX, not_made(side, &s);
+	DONE(lapd_settings_check(&basic, &setting));
+	WANT(setting == LAPD_SETTING_NONE && lapd_setting_string(setting)[0] == 0);
+	s = basic, s.seed = UINT64_MAX, s.sapi16 = 255;
+	DONE(lapd_settings_check(&s, &setting));
+	WANT(setting == LAPD_SETTING_NONE);
+	s = basic, s.size = 0, not_made(side, &s, "size");
+	s = basic, s.size -= 1, not_made(side, &s, "size");
+	s = basic, s.size += 8, s.t200 = 0, not_made(side, &s, "size");
+	s = basic, s.t200 = 0, not_made(side, &s, "t200");
+	s = basic, s.t201 = 3600001, not_made(side, &s, "t201");
+	s = basic, s.t202 = 0, not_made(side, &s, "t202");
+	s = basic, s.t203 = UINT32_MAX, not_made(side, &s, "t203");
+	s = basic, s.room = 0, not_made(side, &s, "room");
+	s = basic, s.room = 1025, not_made(side, &s, "room");
+	s = basic, s.most_waiting = 0, not_made(side, &s, "most_waiting");
+	s = basic, s.n200 = 0, not_made(side, &s, "n200");
+	s = basic, s.n200 = 101, not_made(side, &s, "n200");
+	s = basic, s.k0 = 0, not_made(side, &s, "k0");
+	s = basic, s.k16 = 128, not_made(side, &s, "k16");
+	s = basic, s.reserved[0] = 1, not_made(side, &s, "reserved");
+	s = basic, s.reserved[2] = UINT64_MAX, not_made(side, &s, "reserved");
 	WANT_CODE(lapd_side_network(side, &basic, &group, 1), LAPD_OUT_OF_RANGE);
 	WANT_CODE(lapd_side_user(side, &basic, LAPD_GROUP_TEI), LAPD_OUT_OF_RANGE);
 	WANT_CODE(lapd_side_user(side, &basic, 254), LAPD_OUT_OF_RANGE);
@@ -574,6 +663,7 @@ int main(void)
 	a_check(&side);
 	durations(&side);
 	terminals(&side);
+	lists(&side);
 	counters(&side);
 	lapd_side_free(&side);
 	lapd_side_free(&side);
@@ -582,6 +672,6 @@ int main(void)
 	a_text("\x02\x81\x01\x01", 4, 1, "N>U SAPI 0 TEI 64 C RR N(R)=0 P=1");
 	a_text("\x00\x81\x02\x04\x08\x02", 6, 0, "U>N SAPI 0 TEI 64 C I N(S)=1 N(R)=2 P=0 info=0802");
 	a_text("\x04\x81\x7f", 3, 0, "U>N F3 SapiNotServed 04817f");
-	printf("codes: of handles, buffers, NULL, settings, links, checks, durations, terminals, counters, names and text\n");
+	printf("codes: of handles, buffers, NULL, settings, links, checks, durations, terminals, lists, counters, names and text\n");
 	return 0;
 }

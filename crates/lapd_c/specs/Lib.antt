@@ -10,4 +10,6 @@ pub mod Names
 pub mod Owned
 pub mod Settings
 pub mod SideQueries
+pub mod TeiLists
 pub mod ThroughHandle
+pub mod WrongSetting

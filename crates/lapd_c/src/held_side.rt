@@ -5,6 +5,7 @@ ghost use Rattle.lapd_sides_links.specs.Effects.{no_effects};
 ghost use Rattle.lapd_sides.specs.Either.{Takes, Answers, Gives};
 ghost use Rattle.lapd_sides.specs.Queued.{LacksRoom};
 ghost use Rattle.lapd_c.specs.Calls.{or_never, waiting, items_waiting, is_full, Asks, BeginsCounting, Checks, HasSetTimers, IsReady, Ticks, TicksReady, ReturnsCounters, ReturnsDeadline, ReturnsDiscarded, ReturnsState, ReturnsTerminal, FetchesFrame, FetchesItem, FetchesNext, FetchesPrimitive, overwritten};
+ghost use Rattle.lapd_c.specs.TeiLists.{HasTeis, ReturnsLinks, ReturnsList, ReturnsTeis};
 ghost use Rattle.lapd_c.specs.SideQueries.{HasCheck, HasTerminal, link_meant, meant, or_no_tei, state_of_terminal, tei_of_terminal, with_own_tei};
 
 use crate::codes::{
@@ -14,8 +15,11 @@ use crate::flat_primitive::{FlatPrimitive, flatten};
 use crate::link_counters::FlatCounters;
 use crate::link_counts::{LinkCounts, count_received, count_results};
 use crate::link_state::LinkState;
+use crate::tei_lists::{Teis, tei_alone, teis_held, teis_with_link};
 use lapd_link::Link;
-use lapd_sides::{Durations, EitherSide, LinkId, LinkTable, QueuedSide, Request, Tei, Terminal};
+use lapd_sides::{
+    Durations, EitherSide, LinkId, LinkTable, QueuedSide, Request, Sapi, Tei, Terminal,
+};
 use std::alloc::{AllocError, Global};
 
 /// A side with the results of its calls that C has not fetched.
@@ -283,6 +287,35 @@ impl HeldSide {
         }
     }
 
+    /// Writes the TEIs that a network side holds, or the one that a user side has, to the beginning
+    /// of the buffer, if they fit. `count` is their number.
+    pub(crate) fn teis(&self, buffer: &mut [u8], count: &mut usize) -> u32
+        ensures { ReturnsTeis self.now self.now result count.new
+            (record { before = buffer.old; after = buffer.new }) }
+    {
+        let teis = self.own_teis();
+        write_list(teis.as_slice(), buffer, count)
+    }
+
+    /// The TEIs that a network side holds, or the one that a user side has.
+    fn own_teis(&self) -> Teis
+        ensures { HasTeis self.now.queued.side result.items }
+    {
+        match self.queued.side() {
+            EitherSide::Network(side) => teis_held(side.assigner()),
+            EitherSide::User(side) => tei_alone(side.terminal().tei()),
+        }
+    }
+
+    /// Writes the TEIs of the links with this SAPI, like `teis`.
+    pub(crate) fn links(&self, sapi: Sapi, buffer: &mut [u8], count: &mut usize) -> u32
+        ensures { ReturnsLinks sapi self.now self.now result count.new
+            (record { before = buffer.old; after = buffer.new }) }
+    {
+        let teis = teis_with_link(self.queued.side().table(), sapi);
+        write_list(teis.as_slice(), buffer, count)
+    }
+
     /// Moves the first waiting frame to the beginning of the buffer. `count` is its number of
     /// octets, or 0 if no frame is left. If the buffer is too small, only `count` is set, and the
     /// frame still waits.
@@ -448,6 +481,19 @@ fn link_meant(table: &LinkTable, id: Option<LinkId>) -> Option<&Link>
         Some(id) => table.link(id),
         None => None,
     }
+}
+
+/// Writes a list to the beginning of a buffer, if it fits. `count` is the length of the list.
+fn write_list(list: &[u8], buffer: &mut [u8], count: &mut usize) -> u32
+    ensures { ReturnsList list.now result count.new
+        (record { before = buffer.old; after = buffer.new }) }
+{
+    *count = list.len();
+    if buffer.len() < list.len() {
+        return OUT_OF_RANGE;
+    }
+    overwrite(buffer, list);
+    DONE
 }
 
 /// Overwrites the beginning of a buffer with these octets.

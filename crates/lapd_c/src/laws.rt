@@ -1,6 +1,6 @@
 //! Laws over the definitions. Calling them does nothing.
 
-ghost use Rattle.std.specs.Prelude.{◌≡◌, ℕ, List, [], ◌++◌, Option, is_some, true};
+ghost use Rattle.std.specs.Prelude.{◌≡◌, ◌==◌, ℕ, List, [], ◌++◌, Option, is_some, true};
 ghost use Rattle.lapd_table.specs.declared.link_id.LinkId.{LinkId};
 ghost use Rattle.lapd_sides.specs.declared.request.Request.{Request};
 ghost use Rattle.lapd_sides.specs.Either.{side_of, Takes, Answers, Gives};
@@ -15,6 +15,9 @@ ghost use Rattle.lapd_c.specs.CodeOrder.{ReturnsInOrder};
 ghost use Rattle.lapd_c.specs.Codes.{done, memory, no_side};
 ghost use Rattle.lapd_c.specs.Counters.{counters_of, flat_counters, nothing_counted};
 ghost use Rattle.lapd_c.specs.Owned.{Held};
+ghost use Rattle.lapd_c.specs.declared.settings.Settings.{Settings};
+ghost use Rattle.lapd_c.specs.Settings.{config_of};
+ghost use Rattle.lapd_c.specs.WrongSetting.{wrong_setting};
 
 /// Each call that passes something in returns code 3 exactly if a number is out of range, otherwise
 /// code 1 exactly if the handle owns no side, otherwise code 2 exactly if too many results wait. If
@@ -73,4 +76,10 @@ pub fn counters_are_sums()
         → ReturnsCounters id delivered last after code
         → (code ≡ done) × (delivered ≡ flat_counters
         (counters_of id (with_calls (side_of old.queued.side) calls nothing_counted))) }
+{}
+
+/// Settings have a configuration, with which a side can be created, exactly if `lapd_settings_check`
+/// finds none that is out of its range.
+pub fn settings_are_checked()
+    ensures { (s : Settings) → is_some (config_of s) ≡ (wrong_setting s == 0) }
 {}

@@ -19,6 +19,9 @@ ghost use Rattle.lapd_c.specs.FlatPrimitives.{link_of, nothing, sender};
 ghost use Rattle.lapd_c.specs.Names.{code_name, kind_name};
 ghost use Rattle.lapd_c.specs.Settings.{IsNewNetwork, IsNewUser, network_config, own_tei, user_config};
 ghost use Rattle.lapd_c.specs.SideQueries.{or_no_tei};
+ghost use Rattle.lapd_c.specs.TeiLists.{ReturnsLinksThrough, ReturnsTeis};
+ghost use Rattle.lapd_c.specs.WrongSetting.{ChecksSettings};
+ghost use Rattle.lapd_frame.specs.Address.{sapi_at};
 
 mod box_parts;
 mod codes;
@@ -32,14 +35,15 @@ mod link_state;
 mod making;
 mod names;
 mod settings;
+mod tei_lists;
 
 use codes::{DONE, MEMORY, NO_SIDE, OUT_OF_RANGE};
 use flat_primitive::{FlatPrimitive, link_of};
 use handle::{Handle, put_side, take_side};
 use held_side::HeldSide;
-use lapd_sides::{Durations, LinkId, Request, Side, Tei};
+use lapd_sides::{Durations, LinkId, Request, Sapi, Side, Tei};
 use lapd_trace::line;
-pub use laws::{codes_are_in_order, counters_are_sums};
+pub use laws::{codes_are_in_order, counters_are_sums, settings_are_checked};
 use link_counters::FlatCounters;
 use link_state::LinkState;
 use making::{make_network, make_user};
@@ -47,13 +51,23 @@ use names::{code_name, kind_name, write_text};
 use settings::{Settings, own_tei};
 use std::alloc::Global;
 
-/// The version of the library, 0.2.0: 10,000 times the major version, 100 times the minor one, and
+/// The version of the library, 0.3.0: 10,000 times the major version, 100 times the minor one, and
 /// the patch.
 #[unsafe(no_mangle)]
 pub extern "C" fn lapd_version() -> u32
-    ensures { result ≡ 200 }
+    ensures { result ≡ 300 }
 {
-    200
+    300
+}
+
+/// Sets `setting` to the number of a setting that is out of its range, 0 if none is.
+#[unsafe(no_mangle)]
+pub extern "C" fn lapd_settings_check(settings: &Settings, setting: &mut u8) -> u32
+    ensures { ChecksSettings settings.now result setting.new }
+{
+    let wrong = settings.wrong_setting();
+    *setting = wrong;
+    if wrong == 0 { DONE } else { OUT_OF_RANGE }
 }
 
 /// Creates a network side that holds these TEIs, each 0 to 126, and frees the side that the handle
@@ -391,6 +405,45 @@ pub extern "C" fn lapd_side_state(
         return NO_SIDE;
     };
     side.state(id, state)
+}
+
+/// Writes the TEIs that a network side holds, or the one that a user side has, in ascending order to
+/// the beginning of the buffer. `count` is their number, even if the buffer is too small: then
+/// nothing is written.
+#[unsafe(no_mangle)]
+pub extern "C" fn lapd_side_teis(handle: &mut Handle, buffer: &mut [u8], count: &mut usize) -> u32
+    ensures { Through (λ old new. ReturnsTeis old new result count.new
+        (record { before = buffer.old; after = buffer.new }))
+        ((result ≡ 1) × (count.new ≡ 0) × (buffer.new ≡ buffer.old))
+        handle.old.held handle.new.held }
+{
+    let Some(side) = handle.side() else {
+        *count = 0;
+        return NO_SIDE;
+    };
+    side.teis(buffer, count)
+}
+
+/// Writes the TEIs of the links with this SAPI, like [`lapd_side_teis`].
+#[unsafe(no_mangle)]
+pub extern "C" fn lapd_side_links(
+    handle: &mut Handle,
+    sapi: u8,
+    buffer: &mut [u8],
+    count: &mut usize,
+) -> u32
+    ensures { ReturnsLinksThrough result count.new
+        (record { before = buffer.old; after = buffer.new })
+        handle.old.held handle.new.held (sapi_at sapi) }
+{
+    *count = 0;
+    let Some(sapi) = Sapi::new(sapi) else {
+        return OUT_OF_RANGE;
+    };
+    let Some(side) = handle.side() else {
+        return NO_SIDE;
+    };
+    side.links(sapi, buffer, count)
 }
 
 /// Begins to count the I frames, REJ, RNR and reports of each link, from 0.

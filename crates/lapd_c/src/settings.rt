@@ -3,6 +3,9 @@
 ghost use Rattle.std.specs.Prelude.{◌≡◌, ◌<◌, IfOk, IfSome, MatchOption, true, false};
 ghost use Rattle.std.specs.List.{All, list_all};
 ghost use Rattle.lapd_c.specs.Settings.{config_of, network_config, user_config, is_own_tei, own_tei, fixed_tei, is_0, is_fixed_tei};
+ghost use Rattle.lapd_c.specs.WrongSetting.{wrong_setting};
+ghost use Rattle.lapd_link_definition.specs.Parameters.{lies_between};
+ghost use Rattle.lapd_timers.specs.Durations.{is_length};
 
 use lapd_sides::{Config, Durations, Params, Tei};
 use std::alloc::{AllocError, Global};
@@ -88,12 +91,58 @@ impl Settings {
         })
     }
 
+    /// The number of a setting that is out of its range, as in `lapd_setting` of c/lapd.h; 0 if none
+    /// is. Another size is found first.
+    pub(crate) fn wrong_setting(&self) -> u8
+        ensures { result ≡ wrong_setting self.now }
+    {
+        if self.size != SETTINGS_SIZE {
+            1
+        } else if self.most_waiting == 0 {
+            7
+        } else if !self.are_reserved_0() {
+            11
+        } else if !lies_between(1, u16::from(self.k0), 127) {
+            9
+        } else if !lies_between(1, u16::from(self.n200), 100) {
+            8
+        } else if !lies_between(1, self.room, 1024) {
+            6
+        } else if !lies_between(1, u16::from(self.k16), 127) {
+            10
+        } else if !is_length(self.t200) {
+            2
+        } else if !is_length(self.t201) {
+            3
+        } else if !is_length(self.t202) {
+            4
+        } else if !is_length(self.t203) {
+            5
+        } else {
+            0
+        }
+    }
+
     /// Whether all room is 0.
     fn are_reserved_0(&self) -> bool
         ensures { result ≡ list_all is_0 self.now.reserved }
     {
         self.reserved.iter().all(|number| *number == 0)
     }
+}
+
+/// Whether a number is in this range.
+fn lies_between(low: u16, number: u16, high: u16) -> bool
+    ensures { result ≡ lies_between low number high }
+{
+    low <= number && number <= high
+}
+
+/// Whether a timer may run for so long, in milliseconds.
+fn is_length(duration: u32) -> bool
+    ensures { result ≡ is_length duration }
+{
+    1 <= duration && duration <= 3_600_000
 }
 
 /// Whether each value is 0 to 126.
