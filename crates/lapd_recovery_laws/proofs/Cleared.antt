@@ -7,19 +7,19 @@ use Rattle.lapd_frame.specs.declared.Role.TheVariants.{Command, Answer}
 use Rattle.lapd_frame.specs.declared.Control.TheVariants.{I, Rr, Rnr, Rej, Sabme, Dm, Disc, Ua, Frmr}
 use Rattle.lapd_frame.specs.declared.fault_kind.FaultKind.{FaultKind}
 use Rattle.lapd_mod128.specs.Counting.{Whole}
-use Rattle.lapd_supervision.specs.StateVariables.{is_valid_nr, acknowledges_all, without_exceptions, without_ack_pending}
+use Rattle.lapd_supervision.specs.StateVariables.{is_valid_nr, acknowledges_all, without_ack_pending}
 use Rattle.lapd_link_definition.specs.declared.out.Letter.TheVariants as letter
 use Rattle.lapd_link_definition.specs.declared.out.Out.TheVariants.{Report}
 use Rattle.lapd_link_definition.specs.declared.state.State.{State}
 use Rattle.lapd_link_definition.specs.declared.state.State.TheVariants.{TeiAssigned, AwaitingEstablishment, AwaitingRelease, MultipleFrameEstablished, TimerRecovery}
-use Rattle.lapd_link_definition.specs.AwaitingEstablishment.{end_establishment, ua_final, awaiting_establishment_t200, awaiting_establishment}
-use Rattle.lapd_link_definition.specs.AwaitingRelease.{confirm_release, awaiting_release_t200, awaiting_release}
+use Rattle.lapd_link_definition.specs.AwaitingEstablishment.{awaiting_establishment}
+use Rattle.lapd_link_definition.specs.AwaitingRelease.{awaiting_release}
 use Rattle.lapd_link_definition.specs.EndOfStep.{send_next, is_7_or_8, is_established, send_all, acknowledge_pending, end_step, may_send_next}
 use Rattle.lapd_link_definition.specs.End.{End, StepState, unsent, runs, begin}
-use Rattle.lapd_link_definition.specs.Established.{sends_last, established_t200, acknowledge_with_timers, i_frame_nr, poll_or_final, rr_nr, rej_nr, rnr_nr, busy_on, busy_off, in_7_and_8, multiple_frame_established}
+use Rattle.lapd_link_definition.specs.Established.{sends_last, established_t200, acknowledge_with_timers, i_frame_nr, poll_or_final, rr_nr, rej_nr, rnr_nr, in_7_and_8, multiple_frame_established}
 use Rattle.lapd_link_definition.specs.Input.{Input, Heard, Faulty, Expiry, Establish, Release, BusyOn, BusyOff, UnitData, Give}
 use Rattle.lapd_link_definition.specs.Parameters.{Parameters}
-use Rattle.lapd_link_definition.specs.Procedures.{put, state_to, rc_to, increment_rc, layer3_initiated_to, release_pending_to, start, stop, expired, clear_exception_conditions, zero_state_variables, set_peer_busy, set_own_busy, enquiry_response, transmit_enquiry, queue_up, discard_i_queue, acknowledge, invoke_retransmission, i_frame_ns, discard_unacknowledged, transmit_i_frame, ensure_t200, transmit_rr, establish_data_link, reestablish_data_link, nr_error_recovery}
+use Rattle.lapd_link_definition.specs.Procedures.{put, state_to, layer3_initiated_to, expired, set_peer_busy, set_own_busy, enquiry_response, queue_up, discard_i_queue, acknowledge, i_frame_ns, transmit_i_frame, ensure_t200, transmit_rr, establish_data_link, reestablish_data_link, nr_error_recovery}
 use Rattle.lapd_link_definition.specs.Refusal.{refused}
 use Rattle.lapd_link_definition.specs.Table.{by_state, report_fault, row, step, is_unit_data}
 use Rattle.lapd_link_definition.specs.TeiAssigned.{tei_assigned}
@@ -31,6 +31,7 @@ use Rattle.lapd_pair_laws.specs.Move.{Move, restarted}
 use Rattle.lapd_pair_laws.specs.World.{World, world_after, happens, run, new_world}
 use Rattle.lapd_pair_laws.proofs.EachMove.{AreBoth, kept_by_move, kept_by_run}
 use Rattle.lapd_pair_laws.proofs.Lists.{by_test}
+use Rattle.lapd_link_definition.proofs.ComputedStep.{each_action, each_change, each_row}
 
 -- neither own receiver busy nor an acknowledgement pending
 pub record AreClear (e : End) : Type 0 where
@@ -47,8 +48,7 @@ After s = IsClearIn5 s.end
 
 -- an establishment begins
 begins : (s : StepState) → After (establish_data_link s)
-unfolding establish_data_link clear_exception_conditions without_exceptions release_pending_to rc_to
-    put stop start state_to
+unfolding each_change establish_data_link
 begins s is = record { idle = refl; none_pending = refl }
 
 again : (s : StepState) → After (reestablish_data_link s)
@@ -60,8 +60,7 @@ unfolding nr_error_recovery
 wrong s = again (put (Report letter.J) s)
 
 clear_4 : (h : Input) (s : StepState) → s.end.state ≡ TeiAssigned → After (tei_assigned h s)
-unfolding tei_assigned put clear_exception_conditions zero_state_variables start state_to
-    discard_i_queue layer3_initiated_to
+unfolding each_action tei_assigned
 clear_4 Establish s q = begins (layer3_initiated_to true (discard_i_queue s))
 clear_4 (Heard (Sabme p) Command) s q = λ is. cc
 clear_4 (Heard (Disc p) Command) s q = λ is. cc
@@ -70,8 +69,7 @@ clear_4 Release s q = λ is. cc
 clear_4 h s q = λ is. cc
 
 clear_6 : (h : Input) (s : StepState) → s.end.state ≡ AwaitingRelease → After (awaiting_release h s)
-unfolding awaiting_release confirm_release awaiting_release_t200 put stop start state_to
-    increment_rc expired
+unfolding each_action each_row
 clear_6 (Heard (Sabme p) Command) s q = λ is. cc
 clear_6 (Heard (Disc p) Command) s q = λ is. cc
 clear_6 (Heard (Ua true) Answer) s q = λ is. cc
@@ -83,9 +81,7 @@ clear_6 h s q = λ is. cc
 
 clear_5 : (h : Input) (s : StepState) → s.end.state ≡ AwaitingEstablishment → AreClear s.end
     → After (awaiting_establishment h s)
-unfolding awaiting_establishment end_establishment ua_final awaiting_establishment_t200 put stop
-    start state_to rc_to increment_rc expired discard_i_queue layer3_initiated_to release_pending_to
-    queue_up zero_state_variables
+unfolding each_action each_row
 clear_5 Establish s q c = λ is. record { idle = c.idle; none_pending = c.none_pending }
 clear_5 Release s q c = λ is. record { idle = c.idle; none_pending = c.none_pending }
 clear_5 (Give message) s q c = λ is. record { idle = c.idle; none_pending = c.none_pending }
@@ -115,9 +111,7 @@ stays_open : (s : StepState) → IsOpenState s → After s
 stays_open s opened = λ is. let never : is_7_or_8 s.end.state ≡ false = ap is_7_or_8 is in cc
 
 clear_both : (h : Input) (s : StepState) → IsOpenState s → After (in_7_and_8 h s)
-unfolding in_7_and_8 busy_on busy_off put stop start state_to rc_to discard_i_queue
-    layer3_initiated_to queue_up set_own_busy clear_exception_conditions discard_unacknowledged
-    zero_state_variables
+unfolding each_action each_row
 clear_both Establish s o = begins (layer3_initiated_to true (discard_i_queue s))
 clear_both Release s o = λ is. cc
 clear_both (Give message) s o = stays_open (queue_up message s) o
@@ -135,7 +129,7 @@ clear_both (Heard (Frmr f) Answer) s o = again (put (Report letter.K) s)
 clear_both h s o = stays_open s o
 
 clear_timers : (nr : ℕ) (s : StepState) → IsOpenState s → After (acknowledge_with_timers Whole nr s)
-unfolding acknowledge_with_timers acknowledge stop start
+unfolding each_action acknowledge_with_timers
 clear_timers nr s o =
     by_test After (acknowledges_all nr s.end.window) _ _ (λ _ is. absurd (never_5 s o is))
     (λ _. by_test After (nr == s.end.window.va) _ _ (λ _. stays_open s o)
@@ -154,13 +148,13 @@ clear_rr_nr nr s o =
     by_test After (is_valid_nr Whole nr s.end.window) _ _ (λ _. clear_timers nr s o) (λ _. wrong s)
 
 clear_rej_nr : (nr : ℕ) (s : StepState) → IsOpenState s → After (rej_nr Whole nr s)
-unfolding rej_nr acknowledge invoke_retransmission stop start
+unfolding each_action rej_nr
 clear_rej_nr nr s o =
     by_test After (is_valid_nr Whole nr s.end.window) _ _ (λ _ is. absurd (never_5 s o is))
     (λ _. wrong s)
 
 clear_rnr_nr : (nr : ℕ) (s : StepState) → IsOpenState s → After (rnr_nr Whole nr s)
-unfolding rnr_nr acknowledge stop start
+unfolding each_action rnr_nr
 clear_rnr_nr nr s o =
     by_test After (is_valid_nr Whole nr s.end.window) _ _ (λ _ is. absurd (never_5 s o is))
     (λ _. wrong s)
@@ -179,8 +173,7 @@ clear_7_t200 s =
     by_test After (sends_last s.end.parameters.recovery s.end.window) _ _ (λ _ is. cc) (λ _ is. cc)
 
 clear_7 : (h : Input) (s : StepState) → IsOpenState s → After (multiple_frame_established Whole h s)
-unfolding multiple_frame_established i_frame_ns set_peer_busy put expired rc_to transmit_enquiry
-    state_to
+unfolding each_action multiple_frame_established
 clear_7 (Heard (I ns nr p) Command) s o = clear_i_nr nr (i_frame_ns Whole ns p s) o
 clear_7 (Heard (Rr nr pf) role) s o =
     clear_rr_nr nr (poll_or_final role pf (set_peer_busy false s))
@@ -216,26 +209,26 @@ clear_8_i nr s o =
 
 clear_8_rr : (final : Bool) (nr : ℕ) (s : StepState) → IsOpenState s
     → After (rr_nr_in_recovery Whole final nr s)
-unfolding rr_nr_in_recovery acknowledge invoke_retransmission stop start state_to
+unfolding each_action rr_nr_in_recovery
 clear_8_rr final nr s o =
     by_test After (is_valid_nr Whole nr s.end.window) _ _
     (λ _. by_test After final _ _ (λ _ is. cc) (λ _ is. absurd (never_5 s o is))) (λ _. wrong s)
 
 clear_8_rnr : (final : Bool) (nr : ℕ) (s : StepState) → IsOpenState s
     → After (rnr_nr_in_recovery Whole final nr s)
-unfolding rnr_nr_in_recovery acknowledge invoke_retransmission start state_to
+unfolding each_action rnr_nr_in_recovery
 clear_8_rnr final nr s o =
     by_test After (is_valid_nr Whole nr s.end.window) _ _
     (λ _. by_test After final _ _ (λ _ is. cc) (λ _ is. absurd (never_5 s o is))) (λ _. wrong s)
 
 clear_8_t200 : (s : StepState) → IsOpenState s → After (timer_recovery_t200 s)
-unfolding timer_recovery_t200 increment_rc expired transmit_enquiry
+unfolding each_action timer_recovery_t200
 clear_8_t200 s o =
     by_test After (nat_lt s.end.rc s.end.parameters.n200) _ _ (λ _ is. absurd (never_5 s o is))
     (λ _. again (put (Report letter.I) (expired T200 s)))
 
 clear_8 : (h : Input) (s : StepState) → IsOpenState s → After (timer_recovery Whole h s)
-unfolding timer_recovery i_frame_ns set_peer_busy put
+unfolding each_action timer_recovery
 clear_8 (Heard (I ns nr p) Command) s o = clear_8_i nr (i_frame_ns Whole ns p s) o
 clear_8 (Heard (Dm true) Answer) s o = again (put (Report letter.B) s)
 clear_8 (Heard (Rr nr pf) role) s o =

@@ -8,19 +8,19 @@ use Rattle.lapd_mod128.specs.Counting.{Whole}
 use Rattle.lapd_link_definition.specs.declared.out.Letter.TheVariants as letter
 use Rattle.lapd_link_definition.specs.declared.out.Out.TheVariants.{Send, Start, Stop, Report, ReleaseConfirm}
 use Rattle.lapd_link_definition.specs.declared.state.State.TheVariants.{TeiAssigned, AwaitingRelease}
-use Rattle.lapd_link_definition.specs.AwaitingRelease.{confirm_release, awaiting_release_t200, awaiting_release}
+use Rattle.lapd_link_definition.specs.AwaitingRelease.{confirm_release}
 use Rattle.lapd_link_definition.specs.EndOfStep.{is_7_or_8, end_step}
 use Rattle.lapd_link_definition.specs.End.{End, StepState, begin}
 use Rattle.lapd_link_definition.specs.Input.{Heard, Expiry}
-use Rattle.lapd_link_definition.specs.Procedures.{out_where, put, state_to, increment_rc, start, stop, expired}
-use Rattle.lapd_link_definition.specs.Table.{by_state, row, step}
-use Rattle.lapd_link_definition.specs.TeiAssigned.{tei_assigned}
+use Rattle.lapd_link_definition.specs.Procedures.{out_where, put}
+use Rattle.lapd_link_definition.specs.Table.{row, step}
 use Rattle.lapd_pair_laws.specs.Line.{Flight, without_info}
 use Rattle.lapd_pair_laws.specs.Move.{Deliver, Expire200, Station, View, ViewStep, Refusal, acts, takes, receives, delivers, expires_200, view_after, story_after}
 use Rattle.lapd_pair_laws.proofs.ClosedActions.{closes_nothing}
 use Rattle.lapd_pair_laws.proofs.Lists.{by_test}
 use Rattle.lapd_pair_laws.proofs.Worlds.{left_by}
 use Rattle.lapd_recovery_laws.proofs.Beside.{seeing}
+use Rattle.lapd_link_definition.proofs.ComputedStep.{each_change, each_row}
 
 -- ---- The view of a side after a step with these outputs.
 
@@ -65,7 +65,7 @@ seen_after_frame x frame rest outgoing after frames y = record {
 literally_4 : (e : End) → e.state ≡ TeiAssigned
     → Yields e (end_step Whole (row Whole TeiAssigned (Heard (Disc true) Command) (begin e))) e
     (without_info Answer (Dm true) ∷ [])
-unfolding row by_state tei_assigned put begin story_after
+unfolding each_row put begin story_after
 literally_4 e is =
     let s = put (Send Answer (Dm true)) (begin e) in
     subst (λ (t : StepState). Yields e t e (without_info Answer (Dm true) ∷ []))
@@ -85,7 +85,7 @@ module _ (e : End) (is : e.state ≡ AwaitingRelease) where
   disc_yields : Yields e
       (end_step Whole (row Whole AwaitingRelease (Heard (Disc true) Command) (begin e))) e
       (without_info Answer (Ua true) ∷ [])
-  unfolding row by_state awaiting_release put begin story_after
+  unfolding each_row put begin story_after
   disc_yields =
       let s = put (Send Answer (Ua true)) (begin e) in
       subst (λ (t : StepState). Yields e t e (without_info Answer (Ua true) ∷ []))
@@ -113,7 +113,7 @@ module _ (e : End) (is : e.state ≡ AwaitingRelease) where
   silent false octets place v = sym (append-nil v.outgoing)
 
   confirmed : Yields e (end_step Whole (confirm_release (begin e))) released []
-  unfolding confirm_release stop put state_to begin
+  unfolding each_change confirm_release
   confirmed =
       let s : StepState =
       record
@@ -123,7 +123,7 @@ module _ (e : End) (is : e.state ≡ AwaitingRelease) where
 
   ua_yields : Yields e
       (end_step Whole (row Whole AwaitingRelease (Heard (Ua true) Answer) (begin e))) released []
-  unfolding row by_state awaiting_release
+  unfolding each_row
   ua_yields = confirmed
 
   pub ua_in_6 : Yields e (end_step Whole (row Whole e.state (Heard (Ua true) Answer) (begin e)))
@@ -135,7 +135,7 @@ module _ (e : End) (is : e.state ≡ AwaitingRelease) where
 
   dm_yields : Yields e
       (end_step Whole (row Whole AwaitingRelease (Heard (Dm true) Answer) (begin e))) released []
-  unfolding row by_state awaiting_release
+  unfolding each_row
   dm_yields = confirmed
 
   pub dm_in_6 : Yields e (end_step Whole (row Whole e.state (Heard (Dm true) Answer) (begin e)))
@@ -152,8 +152,7 @@ module _ (e : End) (is : e.state ≡ AwaitingRelease) where
   retry_yields : e.t200 ≡ true → nat_lt e.rc e.parameters.n200 ≡ true
       → Yields e (end_step Whole (row Whole AwaitingRelease (Expiry T200) (begin e))) retried
       (without_info Command (Disc true) ∷ [])
-  unfolding row by_state awaiting_release awaiting_release_t200 increment_rc expired put start begin
-      story_after
+  unfolding each_change each_row story_after
   retry_yields on tries =
       by_test (λ (t : StepState). Yields e
       (end_step Whole t) retried (without_info Command (Disc true) ∷ [])) e.t200 _ _
@@ -177,8 +176,7 @@ module _ (e : End) (is : e.state ≡ AwaitingRelease) where
 
   give_up_yields : e.t200 ≡ true → nat_lt e.rc e.parameters.n200 ≡ false
       → Yields e (end_step Whole (row Whole AwaitingRelease (Expiry T200) (begin e))) released []
-  unfolding row by_state awaiting_release awaiting_release_t200 expired put state_to begin
-      story_after
+  unfolding each_change each_row story_after
   give_up_yields on last =
       by_test (λ (t : StepState). Yields e (end_step Whole t) released []) e.t200 _ _
       (λ _. by_test (λ (t : StepState). Yields e (end_step Whole t) released [])

@@ -14,18 +14,18 @@ use Rattle.lapd_link_definition.specs.declared.out.Out.{Out}
 use Rattle.lapd_link_definition.specs.declared.out.Out.TheVariants.{Send, SendMessage, SendUnit, Report, Dropped, Stop}
 use Rattle.lapd_link_definition.specs.declared.state.State.{State}
 use Rattle.lapd_link_definition.specs.declared.state.State.TheVariants.{TeiAssigned, AwaitingEstablishment, AwaitingRelease, MultipleFrameEstablished, TimerRecovery}
-use Rattle.lapd_link_definition.specs.AwaitingEstablishment.{end_establishment, ua_final, awaiting_establishment_t200, awaiting_establishment}
-use Rattle.lapd_link_definition.specs.AwaitingRelease.{confirm_release, awaiting_release_t200, awaiting_release}
+use Rattle.lapd_link_definition.specs.AwaitingEstablishment.{awaiting_establishment}
+use Rattle.lapd_link_definition.specs.AwaitingRelease.{awaiting_release}
 use Rattle.lapd_link_definition.specs.EndOfStep.{is_7_or_8, end_step}
 use Rattle.lapd_link_definition.specs.End.{End, StepState, begin, runs, waiting}
-use Rattle.lapd_link_definition.specs.Established.{sends_last, established_t200, busy_on, busy_off, in_7_and_8, multiple_frame_established}
+use Rattle.lapd_link_definition.specs.Established.{sends_last, in_7_and_8, multiple_frame_established}
 use Rattle.lapd_link_definition.specs.Input.{Input, Heard, Faulty, Expiry, Establish, Release, BusyOn, BusyOff, UnitData, Give}
 use Rattle.lapd_link_definition.specs.Parameters.{Parameters}
-use Rattle.lapd_link_definition.specs.Procedures.{out_where, put, state_to, rc_to, increment_rc, layer3_initiated_to, release_pending_to, start, stop, expired, clear_exception_conditions, zero_state_variables, set_own_busy, queue_up, discard_i_queue, transmit_enquiry, retransmit_last_i_frame, establish_data_link, reestablish_data_link}
+use Rattle.lapd_link_definition.specs.Procedures.{out_where, put, increment_rc, layer3_initiated_to, start, expired, set_own_busy, queue_up, discard_i_queue, transmit_enquiry, establish_data_link}
 use Rattle.lapd_link_definition.specs.Table.{by_state, report_fault, row, step, is_unit_data}
 use Rattle.lapd_link_definition.specs.Refusal.{refused}
 use Rattle.lapd_link_definition.specs.TeiAssigned.{tei_assigned}
-use Rattle.lapd_link_definition.specs.TimerRecovery.{timer_recovery, timer_recovery_t200}
+use Rattle.lapd_link_definition.specs.TimerRecovery.{timer_recovery}
 use Rattle.lapd_link_definition.proofs.PreservedByStep.{taken}
 use Rattle.lapd_pair_laws.specs.Histories.{Occasion, Story, after_outputs}
 use Rattle.lapd_pair_laws.specs.Conjuncts.{most_asks}
@@ -50,6 +50,7 @@ use Rattle.lapd_recovery_laws.proofs.EndSends.{Unsending, end_closes}
 use Rattle.lapd_recovery_laws.proofs.LostMoves.{moved_user}
 use Rattle.lapd_recovery_laws.proofs.OpenFrames.{never_5}
 use Rattle.lapd_recovery_laws.proofs.Situations.{not_both}
+use Rattle.lapd_link_definition.proofs.ComputedStep.{each_action, each_row}
 
 -- ---- Outputs without a DISC.
 
@@ -105,8 +106,7 @@ IsCalmStep s = AreCalm s.outs
 
 -- an establishment begins
 begins : (s : StepState) → IsCalmStep s → After (establish_data_link s)
-unfolding establish_data_link clear_exception_conditions release_pending_to rc_to put stop start
-    state_to
+unfolding each_action establish_data_link
 begins s calm is =
     calm_append _ _
     (calm_append _ _ (calm_append _ _ calm (refl, tt)) (calm_where s.end.t203 (Stop T203) refl))
@@ -124,7 +124,7 @@ asked s calm = begins (layer3_initiated_to true (discard_i_queue s)) (discards s
 
 from_4 : (h : Input) (s : StepState) → s.end.state ≡ TeiAssigned → IsCalmStep s
     → After (tei_assigned h s)
-unfolding tei_assigned put clear_exception_conditions zero_state_variables start state_to
+unfolding each_action tei_assigned
 from_4 Establish s q calm = asked s calm
 from_4 (Heard (Sabme p) Command) s q calm = λ is. cc
 from_4 (Heard (Disc p) Command) s q calm = λ is. cc
@@ -133,8 +133,7 @@ from_4 Release s q calm = λ is. cc
 from_4 h s q calm = λ is. cc
 
 from_5 : (h : Input) (s : StepState) → IsCalmStep s → After (awaiting_establishment h s)
-unfolding awaiting_establishment end_establishment ua_final awaiting_establishment_t200 put stop
-    start state_to rc_to increment_rc expired layer3_initiated_to release_pending_to queue_up
+unfolding each_action each_row
 from_5 Establish s calm = λ is. discards s calm
 from_5 Release s calm = λ is. discards s calm
 from_5 (Give message) s calm = λ is. calm
@@ -151,8 +150,7 @@ from_5 h s calm = λ is. calm
 
 never_from_6 : {A : Type 0} (h : Input) (s : StepState) → s.end.state ≡ AwaitingRelease
     → (awaiting_release h s).end.state ≡ AwaitingEstablishment → A
-unfolding awaiting_release confirm_release awaiting_release_t200 put stop start state_to
-    increment_rc expired
+unfolding each_action each_row
 never_from_6 (Heard (Sabme p) Command) s q is = cc
 never_from_6 (Heard (Disc p) Command) s q is = cc
 never_from_6 (Heard (Ua true) Answer) s q is = cc
@@ -174,7 +172,7 @@ stays_open s opened = λ is. let never : is_7_or_8 s.end.state ≡ false = ap is
 
 from_7_and_8 : (h : Input) (s : StepState) → is_frame h ≡ false → is_7_or_8 s.end.state ≡ true
     → IsCalmStep s → After (in_7_and_8 h s)
-unfolding in_7_and_8 busy_on busy_off put stop start state_to rc_to queue_up set_own_busy
+unfolding each_action each_row
 from_7_and_8 (Heard control role) s none o calm = cc
 from_7_and_8 (Faulty kind) s none o calm = cc
 from_7_and_8 Establish s none o calm = asked s calm
@@ -190,8 +188,7 @@ from_7_and_8 h s none o calm = stays_open s o
 
 from_7 : (h : Input) (s : StepState) → is_frame h ≡ false → is_7_or_8 s.end.state ≡ true
     → IsCalmStep s → After (multiple_frame_established Whole h s)
-unfolding multiple_frame_established established_t200 expired rc_to transmit_enquiry
-    retransmit_last_i_frame state_to
+unfolding each_action each_row
 from_7 (Heard control role) s none o calm = cc
 from_7 (Faulty kind) s none o calm = cc
 from_7 (Expiry T203) s none o calm = λ is. cc
@@ -201,8 +198,7 @@ from_7 h s none o calm = from_7_and_8 h s none o calm
 
 from_8 : (h : Input) (s : StepState) → is_frame h ≡ false → is_7_or_8 s.end.state ≡ true
     → IsCalmStep s → After (timer_recovery Whole h s)
-unfolding timer_recovery timer_recovery_t200 reestablish_data_link layer3_initiated_to put expired
-    increment_rc transmit_enquiry
+unfolding each_action each_row
 from_8 (Heard control role) s none o calm = cc
 from_8 (Faulty kind) s none o calm = cc
 from_8 (Expiry T200) s none o calm =
@@ -259,7 +255,7 @@ from_row state (Give message) s q good calm = from_state state (Give message) s 
 -- an end in state 6 does not enter state 5
 leaves_6 : (h : Input) (s : StepState) → s.end.state ≡ AwaitingRelease
     → (row Whole AwaitingRelease h s).end.state ≡ AwaitingEstablishment → ⊥
-unfolding row by_state report_fault put
+unfolding each_row put
 leaves_6 (Heard control role) s q is =
     by_test (λ (t : StepState). t.end.state ≡ AwaitingEstablishment → ⊥) (is_unit_data control role)
     _ _ (λ _ is. cc) (λ _ is. never_from_6 (Heard control role) s q is) is

@@ -10,16 +10,13 @@ use Rattle.lapd_link_definition.specs.declared.out.Letter.TheVariants as letter
 use Rattle.lapd_link_definition.specs.declared.out.Out.TheVariants.{Send, Start, Stop, Report, Dropped, Released}
 use Rattle.lapd_link_definition.specs.declared.state.State.{State}
 use Rattle.lapd_link_definition.specs.declared.state.State.TheVariants.{TeiAssigned, AwaitingEstablishment, AwaitingRelease, MultipleFrameEstablished, TimerRecovery}
-use Rattle.lapd_link_definition.specs.AwaitingEstablishment.{release_primitive, end_establishment, ua_final, awaiting_establishment_t200, awaiting_establishment}
-use Rattle.lapd_link_definition.specs.AwaitingRelease.{awaiting_release}
+use Rattle.lapd_link_definition.specs.AwaitingEstablishment.{release_primitive}
 use Rattle.lapd_link_definition.specs.EndOfStep.{is_7_or_8, end_step}
 use Rattle.lapd_link_definition.specs.End.{End, StepState, begin, waiting}
-use Rattle.lapd_link_definition.specs.Established.{in_7_and_8, multiple_frame_established}
+use Rattle.lapd_link_definition.specs.Established.{in_7_and_8}
 use Rattle.lapd_link_definition.specs.Input.{Heard, Expiry}
-use Rattle.lapd_link_definition.specs.Procedures.{out_where, put, state_to, rc_to, increment_rc, release_pending_to, start, stop, expired, discard_i_queue}
-use Rattle.lapd_link_definition.specs.Table.{by_state, row}
-use Rattle.lapd_link_definition.specs.TeiAssigned.{tei_assigned}
-use Rattle.lapd_link_definition.specs.TimerRecovery.{timer_recovery}
+use Rattle.lapd_link_definition.specs.Procedures.{out_where, put}
+use Rattle.lapd_link_definition.specs.Table.{row}
 use Rattle.lapd_pair_laws.specs.Histories.{Occasion, Story, after_outputs}
 use Rattle.lapd_pair_laws.specs.Line.{Flight, without_info}
 use Rattle.lapd_pair_laws.specs.Move.{story_after}
@@ -27,6 +24,7 @@ use Rattle.lapd_pair_laws.proofs.ClosedActions.{closes_nothing}
 use Rattle.lapd_pair_laws.proofs.Lists.{by_test}
 use Rattle.lapd_recovery_laws.proofs.ClosedSteps.{Yields}
 use Rattle.lapd_recovery_laws.proofs.LoneSteps.{is_ignored, sabme, ua, no_frame, same_end}
+use Rattle.lapd_link_definition.proofs.ComputedStep.{each_change, each_row}
 
 abbrev pub dm : Flight
 dm = without_info Answer (Dm true)
@@ -79,7 +77,7 @@ module _ (e : End) (is : e.state ≡ AwaitingEstablishment) where
   sabme_yields_5 : Yields e
       (end_step Whole (row Whole AwaitingEstablishment (Heard (Sabme true) Command) (begin e))) e
       (ua ∷ [])
-  unfolding row by_state awaiting_establishment put begin story_after
+  unfolding each_row put begin story_after
   sabme_yields_5 =
       subst (λ (t : StepState). Yields e t e (ua ∷ []))
       (sym (closes_nothing (put (Send Answer (Ua true)) (begin e)) (ap is_7_or_8 is)))
@@ -94,7 +92,7 @@ module _ (e : End) (is : e.state ≡ AwaitingEstablishment) where
   disc_yields_5 : Yields e
       (end_step Whole (row Whole AwaitingEstablishment (Heard (Disc true) Command) (begin e))) e
       (dm ∷ [])
-  unfolding row by_state awaiting_establishment put begin story_after
+  unfolding each_row put begin story_after
   disc_yields_5 =
       subst (λ (t : StepState). Yields e t e (dm ∷ []))
       (sym (closes_nothing (put (Send Answer (Dm true)) (begin e)) (ap is_7_or_8 is)))
@@ -122,8 +120,7 @@ module _ (e : End) (is : e.state ≡ AwaitingEstablishment) where
   retry_yields_5 : e.t200 ≡ true → nat_lt e.rc e.parameters.n200 ≡ true
       → Yields e (end_step Whole (row Whole AwaitingEstablishment (Expiry T200) (begin e)))
       asked_again (sabme ∷ [])
-  unfolding row by_state awaiting_establishment awaiting_establishment_t200 increment_rc expired put
-      start begin story_after
+  unfolding each_change each_row story_after
   retry_yields_5 on tries =
       by_test (λ (t : StepState). Yields e (end_step Whole t) asked_again (sabme ∷ [])) e.t200 _ _
       (λ _. by_test (λ (t : StepState). Yields e (end_step Whole t) asked_again (sabme ∷ []))
@@ -146,8 +143,7 @@ module _ (e : End) (is : e.state ≡ AwaitingEstablishment) where
   give_up_yields_5 : e.t200 ≡ true → nat_lt e.rc e.parameters.n200 ≡ false
       → Yields e (end_step Whole (row Whole AwaitingEstablishment (Expiry T200) (begin e)))
       abandoned []
-  unfolding row by_state awaiting_establishment awaiting_establishment_t200 expired discard_i_queue
-      end_establishment put release_pending_to state_to begin story_after
+  unfolding each_change each_row story_after
   give_up_yields_5 on last =
       by_test (λ (t : StepState). Yields e (end_step Whole t) abandoned []) e.t200 _ _
       (λ _. by_test (λ (t : StepState). Yields e (end_step Whole t) abandoned [])
@@ -179,8 +175,7 @@ module _ (e : End) (is : e.state ≡ AwaitingEstablishment) where
   dm_yields_5 : Yields e
       (end_step Whole (row Whole AwaitingEstablishment (Heard (Dm true) Answer) (begin e)))
       abandoned []
-  unfolding row by_state awaiting_establishment discard_i_queue stop end_establishment put
-      release_pending_to state_to begin story_after
+  unfolding each_change each_row story_after
   dm_yields_5 =
       let s : StepState =
       record {
@@ -213,8 +208,7 @@ module _ (e : End) (is : e.state ≡ AwaitingEstablishment) where
       → Yields e
       (end_step Whole (row Whole AwaitingEstablishment (Heard (Ua true) Answer) (begin e)))
       leaving (disc ∷ [])
-  unfolding row by_state awaiting_establishment ua_final release_pending_to rc_to put start state_to
-      begin story_after
+  unfolding each_change each_row story_after
   ua_yields_5 pending =
       by_test (λ (t : StepState). Yields e (end_step Whole t) leaving (disc ∷ [])) e.release_pending
       _ _
@@ -237,7 +231,7 @@ module _ (e : End) (is : e.state ≡ AwaitingEstablishment) where
 sabme_yields_6 : (e : End) → e.state ≡ AwaitingRelease
     → Yields e (end_step Whole (row Whole AwaitingRelease (Heard (Sabme true) Command) (begin e))) e
     (dm ∷ [])
-unfolding row by_state awaiting_release put begin story_after
+unfolding each_row put begin story_after
 sabme_yields_6 e is =
     subst (λ (t : StepState). Yields e t e (dm ∷ []))
     (sym (closes_nothing (put (Send Answer (Dm true)) (begin e)) (ap is_7_or_8 is)))
@@ -255,7 +249,7 @@ sabme_in_6 e is =
 ignores : (control : Control) (role : Role) (state : State) (s : StepState) → s.end.state ≡ state
     → is_7_or_8 state ≡ false → is_ignored control ≡ true
     → end_step Whole (row Whole state (Heard control role) s) ≡ s
-unfolding row by_state tei_assigned awaiting_establishment awaiting_release
+unfolding each_row
 ignores (I ns nr p) role TeiAssigned s is closed ignored = closes_nothing s (ap is_7_or_8 is)
 ignores (I ns nr p) role AwaitingEstablishment s is closed ignored =
     closes_nothing s (ap is_7_or_8 is)
@@ -299,7 +293,7 @@ disconnected e = record e {
 disc_closes : (e : End)
     → Yields e (end_step Whole (in_7_and_8 (Heard (Disc true) Command) (begin e))) (disconnected e)
     (ua ∷ [])
-unfolding in_7_and_8 discard_i_queue put stop state_to begin story_after
+unfolding each_change in_7_and_8 story_after
 disc_closes e =
     let s : StepState =
     record {
@@ -320,7 +314,7 @@ disc_closes e =
 disc_by_state : (e : End) (state : State) → is_7_or_8 state ≡ true
     → Yields e (end_step Whole (row Whole state (Heard (Disc true) Command) (begin e)))
     (disconnected e) (ua ∷ [])
-unfolding row by_state multiple_frame_established timer_recovery
+unfolding each_row
 disc_by_state e MultipleFrameEstablished opened = disc_closes e
 disc_by_state e TimerRecovery opened = disc_closes e
 disc_by_state e TeiAssigned opened = cc

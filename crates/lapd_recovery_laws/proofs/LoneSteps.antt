@@ -14,12 +14,10 @@ use Rattle.lapd_link_definition.specs.declared.out.Out.TheVariants.{Send, Start,
 use Rattle.lapd_link_definition.specs.declared.state.State.TheVariants.{TeiAssigned, AwaitingEstablishment, MultipleFrameEstablished, TimerRecovery}
 use Rattle.lapd_link_definition.specs.EndOfStep.{is_7_or_8, is_established, end_step, acknowledge_pending, may_send_next}
 use Rattle.lapd_link_definition.specs.End.{End, StepState, begin, unsent, waiting}
-use Rattle.lapd_link_definition.specs.Established.{multiple_frame_established, established_t200, sends_last}
+use Rattle.lapd_link_definition.specs.Established.{established_t200, sends_last}
 use Rattle.lapd_link_definition.specs.Input.{Heard, Expiry}
-use Rattle.lapd_link_definition.specs.Procedures.{out_where, put, state_to, rc_to, increment_rc, layer3_initiated_to, release_pending_to, start, stop, expired, clear_exception_conditions, zero_state_variables, transmit_enquiry, retransmit_last_i_frame, establish_data_link, reestablish_data_link}
-use Rattle.lapd_link_definition.specs.Table.{by_state, row, step}
-use Rattle.lapd_link_definition.specs.TeiAssigned.{tei_assigned}
-use Rattle.lapd_link_definition.specs.TimerRecovery.{timer_recovery, timer_recovery_t200}
+use Rattle.lapd_link_definition.specs.Procedures.{out_where, state_to, rc_to, increment_rc, expired, transmit_enquiry, retransmit_last_i_frame}
+use Rattle.lapd_link_definition.specs.Table.{row, step}
 use Rattle.lapd_link_definition.proofs.Sending.{sends_none}
 use Rattle.lapd_pair_laws.specs.Line.{Flight, without_info}
 use Rattle.lapd_pair_laws.specs.Move.{Expire200, Expire203, Station, View, ViewStep, Refusal, acts, takes, expires_200, expires_203, view_after, story_after}
@@ -32,6 +30,7 @@ use Rattle.lapd_pair_laws.proofs.States.{enquiry_puts, last_sent, last_puts}
 use Rattle.lapd_pair_laws.proofs.Worlds.{left_by}
 use Rattle.lapd_recovery_laws.proofs.Beside.{seeing}
 use Rattle.lapd_recovery_laws.proofs.ClosedSteps.{Yields}
+use Rattle.lapd_link_definition.proofs.ComputedStep.{each_change, each_row}
 
 -- ---- Frames that an end in state 4 ignores.
 
@@ -49,7 +48,7 @@ ignored_status w =
 
 passes_over : (control : Control) (role : Role) (s : StepState) → s.end.state ≡ TeiAssigned
     → is_ignored control ≡ true → end_step Whole (row Whole TeiAssigned (Heard control role) s) ≡ s
-unfolding row by_state tei_assigned
+unfolding each_row
 passes_over (I ns nr p) role s is ignored = closes_nothing s (ap is_7_or_8 is)
 passes_over (Rr nr pf) role s is ignored = closes_nothing s (ap is_7_or_8 is)
 passes_over (Rnr nr pf) role s is ignored = closes_nothing s (ap is_7_or_8 is)
@@ -146,7 +145,7 @@ module _ (x : Station) where
       → unsent s.end ≡ unsent x.end → waiting s.end ≡ waiting x.end → s.end.window ≡ x.end.window
       → s.end.rc ≡ rc → (story c s).line ≡ [] → (story c s).history.dropped ≡ x.history.dropped
       → PollsBy rc (end_step Whole (state_to TimerRecovery (transmit_enquiry s)))
-  unfolding state_to transmit_enquiry without_ack_pending story_after
+  unfolding each_change story_after
   enquires s rc same_parameters same_unsent same_waiting same_window same_rc none same_dropped =
       let t = state_to TimerRecovery (transmit_enquiry s) in
       let u = without_info Command (status_frame true s.end.window) in
@@ -168,8 +167,7 @@ module _ (x : Station) where
 
   -- T200 expires in state 7
   retransmits : PollsBy 1 (end_step Whole (established_t200 Whole (begin x.end)))
-  unfolding established_t200 story_after expired transmit_enquiry retransmit_last_i_frame
-      last_i_frame without_ack_pending before rc_to state_to begin
+  unfolding each_change established_t200 story_after last_i_frame before
   retransmits =
       by_test (λ (t : StepState). PollsBy 1 (end_step Whole t))
       (sends_last x.end.parameters.recovery x.end.window) _ _
@@ -214,14 +212,14 @@ module _ (x : Station) where
 
   t200_in_7 : x.end.t200 ≡ true
       → PollsBy 1 (end_step Whole (row Whole MultipleFrameEstablished (Expiry T200) (begin x.end)))
-  unfolding row by_state multiple_frame_established begin
+  unfolding each_row begin
   t200_in_7 on =
       by_test (λ (t : StepState). PollsBy 1 (end_step Whole t)) x.end.t200 _ _ (λ _. retransmits)
       (λ off. cc)
 
   t203_in_7 : x.end.t203 ≡ true
       → PollsBy 0 (end_step Whole (row Whole MultipleFrameEstablished (Expiry T203) (begin x.end)))
-  unfolding row by_state multiple_frame_established begin rc_to expired story_after
+  unfolding each_change each_row story_after
   t203_in_7 on =
       by_test (λ (t : StepState). PollsBy 0 (end_step Whole t)) x.end.t203 _ _
       (λ _. enquires (rc_to 0 (expired T203 (begin x.end))) 0 refl refl refl refl refl refl refl)
@@ -230,7 +228,7 @@ module _ (x : Station) where
   retries_in_8 : x.end.state ≡ TimerRecovery
       → PollsBy (x.end.rc + 1)
       (end_step Whole (transmit_enquiry (expired T200 (increment_rc (begin x.end)))))
-  unfolding increment_rc expired transmit_enquiry without_ack_pending story_after begin
+  unfolding each_change story_after
   retries_in_8 is =
       let s = expired T200 (increment_rc (begin x.end)) in
       let t = transmit_enquiry s in
@@ -254,7 +252,7 @@ module _ (x : Station) where
       → nat_lt x.end.rc x.end.parameters.n200 ≡ true
       → PollsBy (x.end.rc + 1)
       (end_step Whole (row Whole TimerRecovery (Expiry T200) (begin x.end)))
-  unfolding row by_state timer_recovery timer_recovery_t200 begin
+  unfolding each_row begin
   t200_in_8 is on tries =
       by_test (λ (t : StepState). PollsBy (x.end.rc + 1) (end_step Whole t)) x.end.t200 _ _
       (λ _. by_test (λ (t : StepState). PollsBy (x.end.rc + 1) (end_step Whole t))
@@ -338,9 +336,7 @@ asking_line false e octets place v = refl
 last_try_yields : (e : End) → e.t200 ≡ true → nat_lt e.rc e.parameters.n200 ≡ false
     → Yields e (end_step Whole (row Whole TimerRecovery (Expiry T200) (begin e))) (asking e)
     (sabme ∷ [])
-unfolding row by_state timer_recovery timer_recovery_t200 expired put reestablish_data_link
-    layer3_initiated_to establish_data_link clear_exception_conditions release_pending_to rc_to stop
-    start state_to begin
+unfolding each_change each_row
 last_try_yields e on last =
     by_test (λ (t : StepState). Yields e (end_step Whole t) (asking e) (sabme ∷ [])) e.t200 _ _
     (λ _. by_test (λ (t : StepState). Yields e (end_step Whole t) (asking e) (sabme ∷ []))
@@ -424,8 +420,7 @@ sends_nothing s all none =
 sabme_yields : (e : End) → length e.given ≡ e.next
     → Yields e (end_step Whole (row Whole TeiAssigned (Heard (Sabme true) Command) (begin e)))
     (established e) (ua ∷ [])
-unfolding row by_state tei_assigned put clear_exception_conditions zero_state_variables start
-    state_to begin without_exceptions with_zero_counters story_after
+unfolding each_change each_row story_after
 sabme_yields e all =
     let s : StepState =
     record {

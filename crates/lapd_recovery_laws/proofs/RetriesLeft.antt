@@ -10,13 +10,13 @@ use Rattle.lapd_link_definition.specs.declared.state.State.{State}
 use Rattle.lapd_link_definition.specs.declared.state.State.TheVariants.{TimerRecovery}
 use Rattle.lapd_link_definition.specs.EndOfStep.{is_7_or_8, send_next, send_all, acknowledge_pending, end_step, may_send_next}
 use Rattle.lapd_link_definition.specs.End.{End, StepState, unsent, begin}
-use Rattle.lapd_link_definition.specs.Established.{in_7_and_8}
 use Rattle.lapd_link_definition.specs.Input.{Heard}
-use Rattle.lapd_link_definition.specs.Procedures.{put, state_to, rc_to, layer3_initiated_to, release_pending_to, start, stop, clear_exception_conditions, set_peer_busy, enquiry_response, acknowledge, invoke_retransmission, i_frame_ns, transmit_i_frame, ensure_t200, transmit_rr, establish_data_link, reestablish_data_link, nr_error_recovery}
+use Rattle.lapd_link_definition.specs.Procedures.{set_peer_busy, enquiry_response, acknowledge, i_frame_ns, transmit_i_frame, ensure_t200, transmit_rr, nr_error_recovery}
 use Rattle.lapd_link_definition.specs.Table.{by_state, row}
 use Rattle.lapd_link_definition.specs.TimerRecovery.{i_frame_nr_in_recovery, poll, rr_nr_in_recovery, timer_recovery, is_final}
 use Rattle.lapd_pair_laws.proofs.Draws.{is_ready}
 use Rattle.lapd_pair_laws.proofs.Lists.{by_test}
+use Rattle.lapd_link_definition.proofs.ComputedStep.{each_action, each_row}
 
 module _ (rc : ℕ) where
   -- in state 8, RC is this number
@@ -24,8 +24,7 @@ module _ (rc : ℕ) where
   Stays s = s.end.state ≡ TimerRecovery → s.end.rc ≡ rc
 
   error_leaves : (s : StepState) → Stays (nr_error_recovery s)
-  unfolding nr_error_recovery reestablish_data_link establish_data_link clear_exception_conditions
-      layer3_initiated_to release_pending_to rc_to put stop start state_to
+  unfolding each_action each_row
   error_leaves s is = cc
 
   i_stays : (nr : ℕ) (s : StepState) → s.end.rc ≡ rc → Stays (i_frame_nr_in_recovery Whole nr s)
@@ -35,7 +34,7 @@ module _ (rc : ℕ) where
 
   rr_stays : (final : Bool) (nr : ℕ) (s : StepState) → s.end.rc ≡ rc
       → Stays (rr_nr_in_recovery Whole final nr s)
-  unfolding rr_nr_in_recovery acknowledge invoke_retransmission stop start state_to
+  unfolding each_action rr_nr_in_recovery
   rr_stays final nr s same =
       by_test Stays (is_valid_nr Whole nr s.end.window) _ _
       (λ _. by_test Stays final _ _ (λ _ is. cc) (λ _ is. same)) (λ _. error_leaves s)
@@ -51,7 +50,7 @@ module _ (rc : ℕ) where
   row_stays : (control : Control) (role : Role) (s : StepState) → is_ready control ≡ true
       → s.end.rc ≡ rc → s.end.state ≡ TimerRecovery
       → Stays (timer_recovery Whole (Heard control role) s)
-  unfolding timer_recovery set_peer_busy i_frame_ns in_7_and_8
+  unfolding each_row set_peer_busy i_frame_ns
   row_stays (I ns nr p) Command s ready same is = i_stays nr (i_frame_ns Whole ns p s) same
   row_stays (I ns nr p) Answer s ready same is = λ _. same
   row_stays (Rr nr pf) role s ready same is =
