@@ -2,27 +2,10 @@
 use Rattle.std.proofs.Common.{Bool, ◌≡◌, inl, ℕ, ◌&&◌, List, [], ◌∷◌, true, false, Some, refl, sym}
 use Rattle.std.specs.Prelude.{Vec, is_some, slice_get}
 use Rattle.std.specs.declared.alloc.Global.{Global}
-use Rattle.lapd_mod128.specs.Counting.{after, steps, lies_within}
-use Rattle.lapd_supervision.specs.StateVariables.{initial_variables, without_exceptions, with_zero_counters, status_frame, acknowledgement, without_ack_pending, poll_response, is_accepted, is_rejected, after_i_frame, i_frame_response, is_valid_nr, with_va, acknowledged_count, acknowledges_all, with_vs, may_send, next_i_frame, after_sending, with_own_busy, with_peer_busy}
-use Rattle.lapd_link_definition.specs.AwaitingEstablishment.{end_establishment, confirm_or_indicate, ua_final, awaiting_establishment_t200, awaiting_establishment}
-use Rattle.lapd_link_definition.specs.AwaitingRelease.{confirm_release, awaiting_release_t200, awaiting_release}
-use Rattle.lapd_link_definition.specs.EndOfStep.{send_all, acknowledge_pending, end_step}
-use Rattle.lapd_link_definition.specs.End.{begin}
-use Rattle.lapd_link_definition.specs.Established.{established_t200, acknowledge_with_timers, i_frame_nr, poll_or_final, rr_nr, rej_nr, rnr_nr, busy_on, busy_off, in_7_and_8, multiple_frame_established}
-use Rattle.lapd_link_definition.specs.Procedures.{put, state_to, rc_to, increment_rc, layer3_initiated_to, release_pending_to, start, stop, expired, clear_exception_conditions, zero_state_variables, set_peer_busy, set_own_busy, enquiry_response, transmit_enquiry, queue_up, discard_i_queue, acknowledge, invoke_retransmission, i_frame_ns, discard_unacknowledged, transmit_i_frame, ensure_t200, transmit_rr, establish_data_link, reestablish_data_link, nr_error_recovery}
-use Rattle.lapd_link_definition.specs.Table.{by_state, report_fault, row, step}
-use Rattle.lapd_link_definition.specs.TeiAssigned.{tei_assigned}
-use Rattle.lapd_link_definition.specs.TimerRecovery.{i_frame_nr_in_recovery, poll, rr_nr_in_recovery, rnr_nr_in_recovery, timer_recovery_t200, timer_recovery}
 use Rattle.lapd_pair_laws.specs.Schedule.{one_message, two_messages}
 use Rattle.lapd_sides_links.specs.declared.primitive.What.TheVariants as what
-use Rattle.lapd_sides_links.specs.Links.{links_below, link_acts, link_expires, in_links, with_tei, without_tei, primitive_of_tei}
-use Rattle.lapd_sides.specs.Management.{manages}
-use Rattle.lapd_sides.specs.SideState.{link_of, expires, takes}
-use Rattle.lapd_sides.specs.Network.{assigner_acts, network_requested}
-use Rattle.lapd_sides.specs.User.{terminal_acts, user_requested}
 use Rattle.lapd_side_events.specs.Bus.{Bus, BusEvent, OfTerminal, OfNetwork, Join, Restart, after_events, from_now, interface_of, moves_along}
 use Rattle.lapd_side_events.specs.Interface.{Configs, from_here, Interface, Move, run}
-use Rattle.lapd_side_events.specs.SideView.{does}
 use Rattle.lapd_two_side_laws.specs.Premises.{AreTimely, GiveTeiOnce}
 use Rattle.lapd_two_side_laws.specs.Primitives.{IsReceived, given_to, known_of, link_primitives}
 use Rattle.lapd_two_side_laws.specs.Projects.{IsReceivedByUser}
@@ -37,10 +20,11 @@ use Rattle.lapd_clock_laws.specs.Clock.{new_clock}
 use Rattle.lapd_clock_laws.specs.InTime.{AreInTime, IsInOrder, IsInRange, IsPrompt, IsWhenDue, OverhearOthers, Premise, TakesFirst, Throughout}
 use Rattle.lapd_clock_laws.specs.Runs.{AllButInOrder, AllButInRange, AllButPrompt, AllButTakesFirst, AllButWhenDue, at_half, at_the_end, bus_at_half, first_terminal, half_of_t200, hasty_at, hurried_at_first, hurried_configs, turned_back}
 use Rattle.lapd_clock_laws.proofs.Tests.{IsSound, Test, both_sound, in_order, in_order_so, in_range, in_range_so, in_time, in_time_so, passes, prompt, prompt_so, takes_first, takes_first_so, throughout_so, when_due, when_due_so}
+use Rattle.lapd_two_side_laws.proofs.ComputedEvents.{computed_events}
 
 -- what a run computes with
 unfoldable pub whole_table : Unit {0}
-unfolding link_acts link_expires in_links with_tei without_tei primitive_of_tei manages assigner_acts link_of takes expires network_requested begin put state_to rc_to increment_rc layer3_initiated_to release_pending_to start stop expired clear_exception_conditions zero_state_variables set_peer_busy set_own_busy enquiry_response transmit_enquiry queue_up discard_i_queue acknowledge invoke_retransmission i_frame_ns discard_unacknowledged transmit_i_frame ensure_t200 transmit_rr establish_data_link reestablish_data_link end_establishment tei_assigned confirm_or_indicate ua_final awaiting_establishment_t200 awaiting_establishment confirm_release awaiting_release_t200 awaiting_release acknowledge_with_timers nr_error_recovery i_frame_nr i_frame_nr_in_recovery poll_or_final poll rr_nr rej_nr rnr_nr rr_nr_in_recovery rnr_nr_in_recovery timer_recovery_t200 busy_on busy_off in_7_and_8 established_t200 multiple_frame_established timer_recovery by_state report_fault row send_all acknowledge_pending end_step step initial_variables without_exceptions with_zero_counters status_frame acknowledgement without_ack_pending poll_response is_accepted is_rejected after_i_frame i_frame_response is_valid_nr with_va acknowledged_count acknowledges_all with_vs may_send next_i_frame after_sending with_own_busy with_peer_busy after steps lies_within terminal_acts user_requested links_below does
+unfolding computed_events
 whole_table = tt
 
 -- ---- Frames take half of T200.
