@@ -144,16 +144,23 @@ fn run(alloc: Global, draws: &mut Draws, counts: Counts) -> Option<Listener> {
 fn are_right(alloc: Global, counts: &mut Counts, text: &mut Text) -> bool {
     let mut draws = Draws::new(921);
     for number in 0..RUNS {
-        let Some(listener) = run(alloc, &mut draws, *counts) else {
-            return false;
-        };
-        *counts = listener.counts;
-        if !listener.watch.is_sound(text) {
+        if !is_right(alloc, &mut draws, counts, text) {
             text.shown(" in run ", &number);
             return false;
         }
     }
     true
+}
+
+/// Makes a run, and returns whether no message was a violation.
+fn is_right(alloc: Global, draws: &mut Draws, counts: &mut Counts, text: &mut Text) -> bool {
+    match run(alloc, draws, *counts) {
+        Some(listener) => {
+            *counts = listener.counts;
+            listener.watch.is_sound(text)
+        }
+        None => false,
+    }
 }
 
 #[test]

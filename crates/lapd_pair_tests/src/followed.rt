@@ -142,13 +142,10 @@ fn show(
 }
 
 /// Makes a run with this pair.
-fn run(draws: &mut MoveDraws, pair: Option<Pair>, listener: &mut Listener) -> bool {
-    let Some(mut pair) = pair else {
-        return false;
-    };
+fn run(draws: &mut MoveDraws, pair: &mut Pair, listener: &mut Listener) -> bool {
     let mut holds = true;
     for _ in 0..MOVES {
-        holds = holds && makes_one(draws, &mut pair, listener);
+        holds = holds && makes_one(draws, pair, listener);
     }
     holds
 }
@@ -163,9 +160,7 @@ fn is_right(
 ) -> bool {
     let mut draws = MoveDraws::new(alloc);
     for number in 0..RUNS {
-        let pair = new_pair(alloc, (7, 64, recoveries.0, recoveries.1));
-        let listener = listener_at(alloc, place.0, place.1);
-        if !is_right_run(&mut draws, pair, listener, counts, text) {
+        if !is_right_from_new(alloc, &mut draws, recoveries, place, counts, text) {
             text.shown(" in run ", &number);
             return false;
         }
@@ -173,19 +168,46 @@ fn is_right(
     true
 }
 
-/// Makes a run, and returns whether no frame is a violation.
-fn is_right_run(
+/// Makes a run of a new pair, and returns whether no frame is a violation.
+fn is_right_from_new(
+    alloc: Global,
     draws: &mut MoveDraws,
-    pair: Option<Pair>,
-    listener: Option<Listener>,
+    recoveries: (Recovery, Recovery),
+    place: (bool, bool),
     counts: &mut Counts,
     text: &mut Text,
 ) -> bool {
-    let Some(mut listener) = listener else {
-        return false;
-    };
+    match new_pair(alloc, (7, 64, recoveries.0, recoveries.1)) {
+        Some(mut pair) => is_right_over(alloc, draws, &mut pair, place, counts, text),
+        None => false,
+    }
+}
+
+/// Makes a run of this pair with a new listener.
+fn is_right_over(
+    alloc: Global,
+    draws: &mut MoveDraws,
+    pair: &mut Pair,
+    place: (bool, bool),
+    counts: &mut Counts,
+    text: &mut Text,
+) -> bool {
+    match listener_at(alloc, place.0, place.1) {
+        Some(mut listener) => is_right_run(draws, pair, &mut listener, counts, text),
+        None => false,
+    }
+}
+
+/// Makes a run, and returns whether no frame is a violation.
+fn is_right_run(
+    draws: &mut MoveDraws,
+    pair: &mut Pair,
+    listener: &mut Listener,
+    counts: &mut Counts,
+    text: &mut Text,
+) -> bool {
     listener.counts = *counts;
-    let is_made = run(draws, pair, &mut listener);
+    let is_made = run(draws, pair, listener);
     *counts = listener.counts;
     is_made && listener.watch.is_sound(text)
 }

@@ -121,18 +121,25 @@ fn right_with(alloc: Global, user: Recovery, network: Recovery) -> Result<(), Fa
     let mut draws = MoveDraws::new(alloc);
     let mut all_hold = true;
     for run in 0..RUNS {
-        all_hold = all_hold
-            && match new_pair(alloc, (7, 64, user, network)) {
-                Some(mut pair) => {
-                    draws.lead(&mut pair, 500, false) && comes_back(&mut pair, run % 2 == 0)
-                }
-                None => false,
-            };
+        all_hold = all_hold && is_right(alloc, &mut draws, (user, network), run % 2 == 0);
     }
     if all_hold {
         Ok(())
     } else {
         Err(Fail::new(format_args!("no memory, or a pair does not recover")))
+    }
+}
+
+/// Makes a run with a new pair, and recovers it.
+fn is_right(
+    alloc: Global,
+    draws: &mut MoveDraws,
+    recoveries: (Recovery, Recovery),
+    is_cut: bool,
+) -> bool {
+    match new_pair(alloc, (7, 64, recoveries.0, recoveries.1)) {
+        Some(mut pair) => draws.lead(&mut pair, 500, false) && comes_back(&mut pair, is_cut),
+        None => false,
     }
 }
 

@@ -52,14 +52,19 @@ pub(crate) fn lead(rt: &HostRuntime, rows: &'static str) -> Result<(), Fail> {
         line: "",
         refused: "",
     };
-    let mut all_hold = true;
-    for line in rows.lines() {
-        all_hold = all_hold && scene.holds(line);
-    }
-    scene.report(rt, all_hold)
+    scene.lead(rt, rows)
 }
 
 impl Scene {
+    /// Makes the rows, and fails at the first step with a wrong result.
+    fn lead(&mut self, rt: &HostRuntime, rows: &'static str) -> Result<(), Fail> {
+        let mut all_hold = true;
+        for line in rows.lines() {
+            all_hold = all_hold && self.holds(line);
+        }
+        self.report(rt, all_hold)
+    }
+
     /// Prints the step whose allocation failed, and fails if a step has the wrong result.
     fn report(&self, rt: &HostRuntime, all_hold: bool) -> Result<(), Fail> {
         if !self.refused.is_empty() {
@@ -96,12 +101,17 @@ impl Scene {
     fn make(&mut self, words: &str, wanted: &str) {
         self.text.clear();
         if words.starts_with("new") {
-            self.pair = new_pair(self.alloc, ends_of(words));
-            self.text.mark(" made", self.pair.is_some());
-            self.text.mark(NO_MEMORY, self.pair.is_none());
+            self.renew(words);
         } else if let Some(pair) = &mut self.pair {
             keep(self.alloc, pair, words, wanted, &mut self.text);
         }
+    }
+
+    /// Creates a new pair.
+    fn renew(&mut self, words: &str) {
+        self.pair = new_pair(self.alloc, ends_of(words));
+        self.text.mark(" made", self.pair.is_some());
+        self.text.mark(NO_MEMORY, self.pair.is_none());
     }
 }
 
@@ -170,16 +180,26 @@ fn put_ends(pair: &Pair, text: &mut Text) {
 /// skipped.
 fn run(alloc: Global, pair: &mut Pair, words: &str, text: &mut Text) {
     let mut all = Vec::new(alloc);
-    let mut are_put = true;
-    for words in words.split(", ") {
-        are_put = match move_of(alloc, words) {
-            Some(mv) => all.push(mv).is_ok() && are_put,
-            None => words == "run" && are_put,
-        };
-    }
+    let are_put = put_moves(alloc, words, &mut all);
     match pair.run(all.as_slice()) {
         Ok(refused) if are_put => text.shown(" skipped ", &refused),
         _ => text.put(" stopped"),
+    }
+}
+
+/// Appends the moves after the word `run`. Returns whether all are moves and no allocation failed.
+fn put_moves(alloc: Global, words: &str, all: &mut Vec<Move>) -> bool {
+    let mut are_put = true;
+    for words in words.split(", ") {
+        are_put = put_move(alloc, words, all) && are_put;
+    }
+    are_put
+}
+
+fn put_move(alloc: Global, words: &str, all: &mut Vec<Move>) -> bool {
+    match move_of(alloc, words) {
+        Some(mv) => all.push(mv).is_ok(),
+        None => words == "run",
     }
 }
 
