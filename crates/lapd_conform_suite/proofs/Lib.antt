@@ -1,0 +1,4 @@
+mod Joined
+mod LinesFrom
+mod Rows
+mod TextLines
