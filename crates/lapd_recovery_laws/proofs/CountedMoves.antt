@@ -21,7 +21,7 @@ use Rattle.lapd_recovery_laws.proofs.RunsEmpty as runs
 use Rattle.lapd_recovery_laws.proofs.RunsEmpty.{Flow}
 use Rattle.lapd_recovery_laws.proofs.TimersExpire.{Expires, t200_expires, t203_expires}
 
-flow_more : (m n : ℕ) (w : World) → m ≤ n → Flow m w → Flow n w
+pub flow_more : (m n : ℕ) (w : World) → m ≤ n → Flow m w → Flow n w
 flow_more m n w le f =
     let most = f.most in
     record { a = f.a; b = f.b; mine = f.mine; its = f.its; most = omega (arith, most, le) }
@@ -63,29 +63,29 @@ pub record IsWeight (N l most : ℕ) (Holds Weight : ℕ → World → Type 0) :
 module _ (N l most : ℕ) (Holds Weight : ℕ → World → Type 0)
     (h : IsWeight N l most Holds Weight) where
   -- m bounds the deliveries that empty the line
-  record Empties (n : ℕ) (w : World) : Type 0 where
-    m : ℕ
-    flow : Flow m w
-    few : m + most ≤ n
+  pub record Empties (n : ℕ) (w : World) : Type 0 where
+    pub m : ℕ
+    pub flow : Flow m w
+    pub few : m + most ≤ n
 
   -- the line was empty, and deliveries that empty it again are few
-  record Returns (n : ℕ) (w : World) : Type 0 where
-    m : ℕ
-    weight : Weight m w
-    flow : Flow (3 * l + 6) w
-    few : m ≤ n
+  pub record Returns (n : ℕ) (w : World) : Type 0 where
+    pub m : ℕ
+    pub weight : Weight m w
+    pub flow : Flow (3 * l + 6) w
+    pub few : m ≤ n
 
   pub record Bounds (b n : ℕ) (w : World) : Type 0 where
-    keeps : Keeps N l w
-    holds : Holds b w
-    phase : Empties n w ⊎ Returns n w
+    pub keeps : Keeps N l w
+    pub holds : Holds b w
+    pub phase : Empties n w ⊎ Returns n w
 
   -- ---- An own move.
 
-  record Falls (n : ℕ) (now : World) : Type 0 where
-    some_left : 1 ≤ n
-    keeps : Keeps N l now
-    phase : Empties (n - 1) now ⊎ Returns (n - 1) now
+  pub record Falls (n : ℕ) (now : World) : Type 0 where
+    pub some_left : 1 ≤ n
+    pub keeps : Keeps N l now
+    pub phase : Empties (n - 1) now ⊎ Returns (n - 1) now
 
   record IsDelivered (m : ℕ) (now : World) : Type 0 where
     some_left : 1 ≤ m
@@ -117,7 +117,7 @@ module _ (N l most : ℕ) (Holds Weight : ℕ → World → Type 0)
           };
         }
 
-    deliver : Empties n w ⊎ Returns n w → Falls n delivered
+    pub deliver : Empties n w ⊎ Returns n w → Falls n delivered
     deliver (inl e) =
         let d = by_flow e.m e.flow in
         let one = d.some_left in
@@ -197,7 +197,7 @@ module _ (N l most : ℕ) (Holds Weight : ℕ → World → Type 0)
             });
       }
 
-  own_expires_200 : (b n : ℕ) (s : Side) (x y : Station) (to_user to_network : List Flight)
+  pub own_expires_200 : (b n : ℕ) (s : Side) (x y : Station) (to_user to_network : List Flight)
       → Bounds b n (at x y to_user to_network)
       → IsOwn Whole (record { side = s; event = Expire200 }) (at x y to_user to_network)
       → Falls n (after s Expire200 (at x y to_user to_network))
@@ -207,7 +207,7 @@ module _ (N l most : ℕ) (Holds Weight : ℕ → World → Type 0)
   own_expires_200 b n s x y (frame ∷ arriving) to_network w own = let due = own.due in cc
   own_expires_200 b n s x y [] (frame ∷ arriving) w own = let due = own.due in cc
 
-  own_expires_203 : (b n : ℕ) (s : Side) (x y : Station) (to_user to_network : List Flight)
+  pub own_expires_203 : (b n : ℕ) (s : Side) (x y : Station) (to_user to_network : List Flight)
       → Bounds b n (at x y to_user to_network)
       → IsOwn Whole (record { side = s; event = Expire203 }) (at x y to_user to_network)
       → Falls n (after s Expire203 (at x y to_user to_network))
@@ -222,7 +222,7 @@ module _ (N l most : ℕ) (Holds Weight : ℕ → World → Type 0)
   abbrev pub rise : ℕ
   rise = 4 * l + 6 + most
 
-  lose : (b n i : ℕ) (s : Side) (w : World) → Bounds (b + 1) n w
+  pub lose : (b n i : ℕ) (s : Side) (w : World) → Bounds (b + 1) n w
       → is_ok (happens Whole (record { side = s; event = Lose i }) w) ≡ true
       → Bounds b (n + rise) (after s (Lose i) w)
   lose b n i s w bounds ok = by_phase bounds.phase

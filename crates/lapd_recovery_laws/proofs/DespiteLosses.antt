@@ -30,7 +30,7 @@ use Rattle.lapd_recovery_laws.proofs.Situations.{Coming}
 
 module _ (N : ℕ) (some : 1 ≤ N) (l : ℕ) where
   -- the weight of a line after an outage
-  outage : IsWeight N l (6 * N + 11) (λ b w. Unit {0}) (λ n w. Coming N false n w)
+  pub outage : IsWeight N l (6 * N + 11) (λ b w. Unit {0}) (λ n w. Coming N false n w)
   outage = record {
     own_holds = λ b s event w k held own. tt;
     loss_holds = λ b i s w held ok. tt;

@@ -7,7 +7,9 @@ pub mod ClosedDelivers
 pub mod ClosedInputs
 pub mod ClosedSteps
 pub mod CountedMoves
+pub mod CountedTimers
 pub mod DespiteLosses
+pub mod DespiteTimers
 pub mod DiscSent
 pub mod EndSends
 pub mod Establishes
@@ -46,9 +48,11 @@ pub mod Retry
 pub mod RunsEmpty
 pub mod SendsOn
 pub mod Situations
+pub mod TimersBeside
 pub mod TimersExpire
 pub mod TimersOfRuns
 pub mod Transitions
 pub mod UnreadNumbers
 pub mod Wanted
+pub mod WorkedTimers
 pub mod WorkedWorlds

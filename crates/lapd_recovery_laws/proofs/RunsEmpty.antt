@@ -186,7 +186,7 @@ load_few TimerRecovery leaving u w m f e le one some =
 load_few state leaving u w m f e le one some = omega arith
 
 -- the first unsent message is not before the first waiting one
-in_queue : (state : State) (asked leaving : Bool) (s : Sender)
+pub in_queue : (state : State) (asked leaving : Bool) (s : Sender)
     → IsConsistentSender state asked leaving s → s.first ≤ s.next
 in_queue AwaitingEstablishment false false s h =
     let a = h.first in let b = h.next in let o = h.ordered in omega (arith, a, b, o)
@@ -219,7 +219,7 @@ missing_few x y base its_base out back both opened = by_peer (is_7_or_8 y.end.st
         let within : x.end.next ≤ length x.end.given = n.within in
         omega (arith, low, first, next, within)
 
-side_few : (x y : Station) (base its_base : ℕ) (out back : List Kind)
+pub side_few : (x y : Station) (base its_base : ℕ) (out back : List Kind)
     → Both (party base x) (party its_base y) out back
     → load x.end y.end out ≤ 3 * waiting x.end + 2 + extra y.end out
 side_few x y base its_base out back both =

@@ -1,6 +1,7 @@
 pub mod AfterOutage
 pub mod Agreed
 pub mod Deliveries
+pub mod EarlyTimers
 pub mod EveryWorld
 pub mod FewLosses
 pub mod KeptAgreement
@@ -12,4 +13,5 @@ pub mod QuickRestart
 pub mod Recovered
 pub mod ReleasedLine
 pub mod Timers
+pub mod Untimely
 pub mod WantedLine

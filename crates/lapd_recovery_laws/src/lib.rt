@@ -8,7 +8,8 @@
 //! - `Own`, the moves that the line makes by itself; `Agreed`, the world that they lead to;
 //!   `AfterOutage`, worlds with no frame in transit; `Deliveries`, by which the line runs empty;
 //!   `EveryWorld`, the worlds from which own moves lead to agreement; `KeptAgreement`, T203 of ends
-//!   that agree; and `Losses`, own moves while frames are still lost;
+//!   that agree; `Losses`, own moves while frames are still lost; and `EarlyTimers`, timers that
+//!   expire beside frames in transit;
 //! - `OpenLine`, `LoneLine`, `ReleasedLine` and `WantedLine`, kinds of such worlds of which more is
 //!   known; and `FewLosses`, losses that drop no message;
 //! - `Timers`, the timers between two moves; and `Recovered`, worlds that try the moves.
@@ -26,9 +27,10 @@ pub use quick_restarts::{
     quick_restart_premise_is_needed, quick_restarts_keep_the_invariant,
 };
 pub use recovery::{
-    every_agreement_is_kept, every_held_line_stays_up, every_line_comes_back,
-    every_line_runs_empty, every_lone_line_comes_up, every_open_line_comes_up,
-    every_released_line_comes_down, every_wanted_line_comes_up, every_world_comes_back,
+    early_timers_are_computed, every_agreement_is_kept, every_held_line_stays_up,
+    every_line_comes_back, every_line_runs_empty, every_lone_line_comes_up,
+    every_open_line_comes_up, every_released_line_comes_down, every_wanted_line_comes_up,
+    every_world_comes_back, every_world_comes_back_despite_early_timers,
     every_world_comes_back_despite_losses, few_losses_drop_nothing, recovery_is_computed,
     timers_of_states_run,
 };

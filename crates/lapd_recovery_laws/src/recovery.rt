@@ -13,6 +13,7 @@ ghost use Rattle.lapd_recovery_laws.specs.AfterOutage.{IsAfterOutage, IsHeldUp, 
 ghost use Rattle.lapd_recovery_laws.specs.Agreed.{ComesBack};
 ghost use Rattle.lapd_recovery_laws.specs.EveryWorld.{IsFreeWorld, WorldComesBack};
 ghost use Rattle.lapd_recovery_laws.specs.Deliveries.{RunsEmpty};
+ghost use Rattle.lapd_recovery_laws.specs.EarlyTimers.{ComesBackDespiteTimers};
 ghost use Rattle.lapd_recovery_laws.specs.FewLosses.{OutlastLosses, KeepsAll};
 ghost use Rattle.lapd_recovery_laws.specs.KeptAgreement.{AreOwnOr203, KeepsAgreement};
 ghost use Rattle.lapd_recovery_laws.specs.LoneLine.{IsLoneLine, ComesUpAnew};
@@ -21,6 +22,7 @@ ghost use Rattle.lapd_recovery_laws.specs.OpenLine.{IsOpenLine, ComesUp};
 ghost use Rattle.lapd_recovery_laws.specs.Recovered.{outcome_of, outcome_of_deliveries, outcome_from, first_of_three_lost, poll_meets_sabme, both_sabmes_lost, network_restarts, restarts_with_one_sent, release_waits, sabmes_lost, disc_lost, release_unheard, disc_meets_sabme, dm_sent, longest, both_in_7, both_in_4, held_up, IsBusy, message_lost, three_polls_lost, two_polls_lost, outcome_despite, outcome_of_few, polls_cross, polled_on, all_due, agreed_after, least_pair, all_admitted, outcome_of_least, eight_wait, t200_beside_frames, too_many_t200, network_sabme_lost, t203_before_t200, too_many_t203};
 ghost use Rattle.lapd_recovery_laws.specs.ReleasedLine.{IsReleasedLine, ComesDown};
 ghost use Rattle.lapd_recovery_laws.specs.Timers.{HaveTimersOfStates};
+ghost use Rattle.lapd_recovery_laws.specs.Untimely.{untimely, outcome_of_line, t203_counted, message_sent, t200_overtakes};
 ghost use Rattle.lapd_recovery_laws.specs.WantedLine.{AreWanting, IsWanted};
 
 /// Worked worlds recover as expected, on whole numbers and on tags, with either `Recovery`: the
@@ -262,6 +264,44 @@ pub fn every_world_comes_back_despite_losses()
         → user.k ≤ 127 → network.k ≤ 127 → 1 ≤ user.k → 1 ≤ network.k → (moves : List Move)
         → IsFreeWorld n200 (run r moves (new_world user network))
         → ComesBackDespite r n200 (run r moves (new_world user network)) }
+{}
+
+/// Every world recovers by itself although timers do not wait for each other. The premises are those
+/// of [`every_world_comes_back`], but besides own moves and losses a timer may expire early: T200
+/// beside frames in transit wherever it runs, unless a command with P=1 of its end, or the response
+/// to it, is in transit; and T203 wherever it runs. The moves, in any order, are at most those of
+/// [`every_world_comes_back_despite_losses`] and, for each early timer, six per message left at the
+/// start, six per retransmission that N200 allows, and 24 more. If T200 expires in state 8, each
+/// message that is still in transit from this end counts one more. When no own move is possible any
+/// more, both ends agree, however many timers were early.
+pub fn every_world_comes_back_despite_early_timers()
+    ensures { (r : Reading) (n200 : ℕ) → 1 ≤ n200 → (user network : Parameters)
+        → user.k ≤ 127 → network.k ≤ 127 → 1 ≤ user.k → 1 ≤ network.k → (moves : List Move)
+        → IsFreeWorld n200 (run r moves (new_world user network))
+        → ComesBackDespiteTimers r n200 (run r moves (new_world user network)) }
+{}
+
+/// Runs with early timers are bounded as expected, on whole numbers and on tags. The first two pass
+/// the bound of own moves, and keep the one that counts early timers: T200 expires beside messages
+/// in transit, nine times; and T203 expires before T200 of the peer, four times. In the third a poll
+/// is lost, and T200 expires in state 8 while the message before the poll is still in transit.
+pub fn early_timers_are_computed()
+    ensures t200_counts { (r : Reading)
+        → (untimely r t200_beside_frames (run r eight_wait least_pair)
+        ≡ record { lost = 0; early = 9; late = 0 })
+        × (outcome_of_line r t200_beside_frames (run r eight_wait least_pair)
+        ≡ both_in_7 48 8 0) }
+    ensures t203_counts { (r : Reading)
+        → (untimely r t203_before_t200 (run r network_sabme_lost least_pair)
+        ≡ record { lost = 0; early = 4; late = 0 })
+        × (outcome_of_line r t203_before_t200 (run r network_sabme_lost least_pair)
+        ≡ t203_counted) }
+    ensures overtakes { (r : Reading)
+        → (all_admitted r t200_overtakes (run r message_sent least_pair) ≡ true)
+        × (untimely r t200_overtakes (run r message_sent least_pair)
+        ≡ record { lost = 1; early = 2; late = 1 })
+        × (outcome_of_line r t200_overtakes (run r message_sent least_pair)
+        ≡ both_in_7 7 1 1) }
 {}
 
 /// Few losses drop no message. Suppose that both ends are in state 7 or 8 and neither is own

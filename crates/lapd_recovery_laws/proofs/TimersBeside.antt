@@ -1,0 +1,657 @@
+-- T200 or T203 of a side expires beside frames in transit: the deliveries that the line needs grow
+-- by the messages that wait.
+use Rattle.std.proofs.Common.{◌≡◌, ◌⊎◌, inl, inr, ℕ, ◌+◌, ◌-◌, ◌*◌, ◌≤◌, if◌then◌else◌, nat_lt, Bool, true, false, List, [], ◌∷◌, ◌++◌, append_assoc, append-nil, Option, Some, None, Result, Err, is_ok, refl, sym, ap, subst, ◌∙◌, arith}
+use Rattle.lapd_timers.specs.declared.timer.Timer.TheVariants.{T200, T203}
+use Rattle.lapd_frame.specs.declared.Side.{Side}
+use Rattle.lapd_frame.specs.declared.Side.TheVariants as side
+use Rattle.lapd_frame.specs.declared.Role.{Role}
+use Rattle.lapd_frame.specs.declared.Role.TheVariants.{Command, Answer}
+use Rattle.lapd_frame.specs.declared.Control.{Control}
+use Rattle.lapd_frame.specs.declared.Control.TheVariants.{I, Rr, Rnr, Rej, Sabme, Dm, Disc, Ua}
+use Rattle.lapd_mod128.specs.Counting.{Whole}
+use Rattle.lapd_supervision.specs.StateVariables.{without_ack_pending}
+use Rattle.lapd_link_definition.specs.declared.out.Out.{Out}
+use Rattle.lapd_link_definition.specs.declared.out.Out.TheVariants.{Send, SendMessage, SendUnit, Up, UnitUp, Acknowledged, Dropped}
+use Rattle.lapd_link_definition.specs.declared.state.State.{State}
+use Rattle.lapd_link_definition.specs.declared.state.State.TheVariants.{TeiAssigned, AwaitingEstablishment, AwaitingRelease, MultipleFrameEstablished, TimerRecovery}
+use Rattle.lapd_link_definition.specs.EndOfStep.{is_7_or_8, end_step}
+use Rattle.lapd_link_definition.specs.End.{End, begin, unsent, waiting}
+use Rattle.lapd_link_definition.specs.Input.{Expiry}
+use Rattle.lapd_link_definition.specs.RunningTimers.{HasTimersOfState}
+use Rattle.lapd_link_definition.specs.Table.{row, step}
+use Rattle.lapd_pair_laws.specs.Histories.{History, Occasion, after_outputs, message_frame, unit_frame, with_sending, with_receipt, with_unit, with_acked, with_dropped, with_beginning}
+use Rattle.lapd_pair_laws.specs.Invariant.{Both, IsInvariant}
+use Rattle.lapd_pair_laws.specs.Kinds.{Kind, Numbered, Enquiry, kind_of, kind, kinds, tally, poll_of, bit, is_acceptance}
+use Rattle.lapd_pair_laws.specs.Line.{Flight, without_info, first_poll, first_final}
+use Rattle.lapd_pair_laws.specs.Move.{PairEvent, Expire200, Expire203, NotRunning, Station, View, ViewStep, Refusal, acts, takes, expires_200, expires_203, unless_under_way, view_after, story_after}
+use Rattle.lapd_pair_laws.specs.Parties.{party}
+use Rattle.lapd_pair_laws.specs.World.{World, swapped, view_of, with_view, happens, world_after}
+use Rattle.lapd_pair_laws.proofs.Flow.{fresh}
+use Rattle.lapd_pair_laws.proofs.Lists.{tally_append}
+use Rattle.lapd_pair_laws.proofs.Stepping.{user_move}
+use Rattle.lapd_pair_laws.proofs.Swaps.{network_alike}
+use Rattle.lapd_pair_laws.proofs.Whole.{each_move_preserves}
+use Rattle.lapd_pair_laws.proofs.Worlds.{left_by, exchanged}
+use Rattle.lapd_recovery_laws.specs.EarlyTimers.{is_message, messages_in, if_in_8, overtaken_by}
+use Rattle.lapd_recovery_laws.specs.Losses.{one_if}
+use Rattle.lapd_recovery_laws.specs.Own.{IsFree}
+use Rattle.lapd_recovery_laws.specs.Timers.{HaveTimersOfStates}
+use Rattle.lapd_recovery_laws.proofs.Beside.{seeing}
+use Rattle.lapd_recovery_laws.proofs.ClosedSteps.{Sees, seen_after_t200, released, retried, retry_in_6, give_up_in_6}
+use Rattle.lapd_recovery_laws.proofs.EndSends.{kinds_append}
+use Rattle.lapd_recovery_laws.proofs.HalfSteps.{disc, asked_again, abandoned, retry_in_5, give_up_in_5}
+use Rattle.lapd_recovery_laws.proofs.Lone.{t200_runs, t203_runs, ok_of_side}
+use Rattle.lapd_recovery_laws.proofs.LoneSteps.{Polls, polls_by_t200, polls_by_t203, polls_again, sabme, asking, last_try_in_8}
+use Rattle.lapd_recovery_laws.proofs.Lost.{at}
+use Rattle.lapd_recovery_laws.proofs.LostMoves.{moved_user}
+use Rattle.lapd_recovery_laws.proofs.Proceeding.{weigh, weight_of, plain_of, extra, extra_few, extra_open, extra_shut, extra_more, load, load_in, load_least, missing, fresh_few, Share, Flowing, flowing_turned}
+use Rattle.lapd_recovery_laws.proofs.RunsEmpty.{Flow, missing_few, in_queue, side_few}
+use Rattle.lapd_recovery_laws.proofs.Transitions.{timers_in}
+
+-- ---- The same step, whichever frames are in transit.
+
+module _ (o : Occasion) (l : List Flight) where
+  -- a line that begins with l, and the rest of it
+  abbrev Behind : List Out → History → List Flight → List Flight → Type 0
+  Behind outs h all rest =
+      (after_outputs o outs (record { line = all; history = h })).line
+      ≡ l ++ (after_outputs o outs (record { line = rest; history = h })).line
+
+  one_more : (outs : List Out) (h : History) (rest : List Flight) (g : Flight)
+      → Behind outs h (l ++ (rest ++ g ∷ [])) (rest ++ g ∷ [])
+      → Behind outs h ((l ++ rest) ++ g ∷ []) (rest ++ g ∷ [])
+  one_more outs h rest g same =
+      subst (λ all. Behind outs h all (rest ++ g ∷ [])) (sym (append_assoc l rest (g ∷ []))) same
+
+  outputs_behind : (outs : List Out) (h : History) (rest : List Flight)
+      → Behind outs h (l ++ rest) rest
+  outputs_behind [] h rest = refl
+  outputs_behind (Send role control ∷ outs) h rest =
+      let g = without_info role control in
+      one_more outs h rest g (outputs_behind outs h (rest ++ g ∷ []))
+  outputs_behind (SendMessage n control ∷ outs) h rest =
+      let g = message_frame o control (h.passed + n) in
+      let now = with_sending (h.passed + n) o.establishment h in
+      one_more outs now rest g (outputs_behind outs now (rest ++ g ∷ []))
+  outputs_behind (SendUnit ∷ outs) h rest =
+      let g = unit_frame o.octets in
+      one_more outs h rest g (outputs_behind outs h (rest ++ g ∷ []))
+  outputs_behind (Up ∷ outs) h rest =
+      outputs_behind outs (with_receipt
+      (record { octets = o.octets; establishment = o.establishment; place = o.place }) h) rest
+  outputs_behind (UnitUp ∷ outs) h rest = outputs_behind outs (with_unit o.octets h) rest
+  outputs_behind (Acknowledged n ∷ outs) h rest = outputs_behind outs (with_acked n h) rest
+  outputs_behind (Dropped n ∷ outs) h rest = outputs_behind outs (with_dropped n h) rest
+  outputs_behind (out ∷ outs) h rest = outputs_behind outs h rest
+
+-- a view after a step, and after the same step on an empty line
+record IsBeside (incoming outgoing : List Flight) (alone v : View) : Type 0 where
+  end : v.station.end ≡ alone.station.end
+  incoming_is : v.incoming ≡ incoming
+  outgoing_is : v.outgoing ≡ outgoing ++ alone.outgoing
+
+module _ (x : Station) (incoming outgoing : List Flight) where
+  abbrev full : View
+  full = seeing x incoming outgoing
+
+  abbrev alone : View
+  alone = seeing x [] []
+
+  abbrev Beside : PairEvent → Type 0
+  Beside event =
+      IsBeside incoming outgoing (left_by alone (acts Whole side.User event alone))
+      (left_by full (acts Whole side.User event full))
+
+  t200_taken : is_ok (acts Whole side.User Expire200 full) ≡ true
+      → acts Whole side.User Expire200 full ≡ takes Whole (Expiry T200) [] full
+  unfolding acts expires_200
+  t200_taken ok =
+      by_tests x.end.t200 (first_poll outgoing) (first_final incoming)
+      (takes Whole (Expiry T200) [] full) ok
+    where
+      by_tests : (on : Bool) (poll final : Option ℕ) (taken : Result ViewStep Refusal)
+          → is_ok (if on then unless_under_way side.User poll final taken else Err NotRunning)
+          ≡ true
+          → (if on then unless_under_way side.User poll final taken else Err NotRunning) ≡ taken
+      by_tests true None None taken ok = refl
+      by_tests true None (Some final) taken ok = cc
+      by_tests true (Some poll) final taken ok = cc
+      by_tests false poll final taken ok = cc
+
+  t200_alone : x.end.t200 ≡ true
+      → acts Whole side.User Expire200 alone ≡ takes Whole (Expiry T200) [] alone
+  unfolding acts expires_200
+  t200_alone on = rw on refl
+
+  t203_taken : (v : View) → v.station.end.t203 ≡ true
+      → acts Whole side.User Expire203 v ≡ takes Whole (Expiry T203) [] v
+  unfolding acts expires_203
+  t203_taken v on = rw on refl
+
+  t200_stepped : IsBeside incoming outgoing (left_by alone (takes Whole (Expiry T200) [] alone))
+      (left_by full (takes Whole (Expiry T200) [] full))
+  unfolding takes step view_after story_after
+  t200_stepped =
+      let s = end_step Whole (row Whole x.end.state (Expiry T200) (begin x.end)) in
+      let o : Occasion =
+      record {
+        given = s.end.given;
+        establishment = s.end.establishments;
+        octets = [];
+        place = 0;
+      } in
+      let h = with_beginning x.end.establishments s.end.establishments x.history in
+      record {
+        end = refl;
+        incoming_is = refl;
+        outgoing_is =
+            subst (λ l. (after_outputs o s.outs (record { line = l; history = h })).line
+            ≡ outgoing ++ (after_outputs o s.outs (record { line = []; history = h })).line)
+            (append-nil outgoing) (outputs_behind o outgoing s.outs h []);
+      }
+
+  t203_stepped : IsBeside incoming outgoing (left_by alone (takes Whole (Expiry T203) [] alone))
+      (left_by full (takes Whole (Expiry T203) [] full))
+  unfolding takes step view_after story_after
+  t203_stepped =
+      let s = end_step Whole (row Whole x.end.state (Expiry T203) (begin x.end)) in
+      let o : Occasion =
+      record {
+        given = s.end.given;
+        establishment = s.end.establishments;
+        octets = [];
+        place = 0;
+      } in
+      let h = with_beginning x.end.establishments s.end.establishments x.history in
+      record {
+        end = refl;
+        incoming_is = refl;
+        outgoing_is =
+            subst (λ l. (after_outputs o s.outs (record { line = l; history = h })).line
+            ≡ outgoing ++ (after_outputs o s.outs (record { line = []; history = h })).line)
+            (append-nil outgoing) (outputs_behind o outgoing s.outs h []);
+      }
+
+  t200_beside : is_ok (acts Whole side.User Expire200 full) ≡ true → Beside Expire200
+  t200_beside ok =
+      let on = t200_runs full ok in
+      let F : Result ViewStep Refusal → Type 0 =
+      λ r. IsBeside incoming outgoing (left_by alone r)
+      (left_by full (acts Whole side.User Expire200 full)) in
+      subst F (sym (t200_alone on))
+      (subst (λ r. IsBeside incoming outgoing
+      (left_by alone (takes Whole (Expiry T200) [] alone)) (left_by full r))
+      (sym (t200_taken ok)) t200_stepped)
+
+  t203_beside : is_ok (acts Whole side.User Expire203 full) ≡ true → Beside Expire203
+  t203_beside ok =
+      let on = t203_runs full ok in
+      let F : Result ViewStep Refusal → Type 0 =
+      λ r. IsBeside incoming outgoing (left_by alone r)
+      (left_by full (acts Whole side.User Expire203 full)) in
+      subst F (sym (t203_taken alone on))
+      (subst (λ r. IsBeside incoming outgoing
+      (left_by alone (takes Whole (Expiry T203) [] alone)) (left_by full r))
+      (sym (t203_taken full on)) t203_stepped)
+
+-- ---- The frame that is sent.
+
+-- at most two moves, and no message to answer
+record IsLight (k : Kind) : Type 0 where
+  other : is_acceptance k ≡ false
+  plain : plain_of k ≡ 0
+  light : weight_of k ≤ 2
+
+polling : (k : Kind) → poll_of k ≡ 1 → IsLight k
+polling (Numbered m nr) polls = by_bit m.polled refl polls
+  where
+    by_bit : (b : Bool) → m.polled ≡ b → bit b ≡ 1 → IsLight (Numbered m nr)
+    by_bit true is one =
+        record { other = refl; plain = rw is refl; light = rw is (omega arith) }
+    by_bit false is one = cc
+polling (Enquiry nr) polls = record { other = refl; plain = refl; light = omega arith }
+polling k polls = cc
+
+-- The expiry of a timer on an empty line: what its peer processes, and what it processes itself,
+-- does not grow. An end that establishes anew was in state 8.
+record IsMild (x : Station) (v : View) : Type 0 where
+  fewer : waiting v.station.end ≤ waiting x.end
+  free : IsFree x.end → IsFree v.station.end
+  light : weigh (kinds v.outgoing) ≤ 2
+  passed : (y : End) (ks : List Kind) → extra y (ks ++ kinds v.outgoing) ≤ extra y ks
+  heard : (ks : List Kind) → extra v.station.end ks ≤ extra x.end ks
+  closes : is_7_or_8 v.station.end.state ≡ false
+      → (is_7_or_8 x.end.state ≡ false) ⊎ (x.end.state ≡ TimerRecovery)
+
+module _ (x : Station) (v : View) where
+  -- these facts of the end after the step
+  record Keeps (e : End) : Type 0 where
+    fewer : waiting e ≤ waiting x.end
+    free : IsFree x.end → IsFree e
+    heard : (ks : List Kind) → extra e ks ≤ extra x.end ks
+    closes : is_7_or_8 e.state ≡ false
+        → (is_7_or_8 x.end.state ≡ false) ⊎ (x.end.state ≡ TimerRecovery)
+
+  with_frame : (f : Flight) → v.outgoing ≡ f ∷ [] → IsLight (kind f) → Keeps v.station.end
+      → IsMild x v
+  with_frame f sent l k =
+      let light = l.light in
+      record {
+        fewer = k.fewer;
+        free = k.free;
+        light = subst (λ fs. weigh (kinds fs) ≤ 2) (sym sent) (omega (arith, light));
+        passed = λ y ks. subst (λ fs. extra y (ks ++ kinds fs) ≤ extra y ks) (sym sent)
+            (let same = extra_more y ks (kind f) l.other l.plain in omega (arith, same));
+        heard = k.heard;
+        closes = k.closes;
+      }
+
+  with_none : v.outgoing ≡ [] → Keeps v.station.end → IsMild x v
+  with_none sent k = record {
+    fewer = k.fewer;
+    free = k.free;
+    light = subst (λ fs. weigh (kinds fs) ≤ 2) (sym sent) (omega arith);
+    passed = λ y ks. subst (λ fs. extra y (ks ++ kinds fs) ≤ extra y ks) (sym sent)
+        (let same = ap (λ l. extra y l) (append-nil ks) in omega (arith, same));
+    heard = k.heard;
+    closes = k.closes;
+  }
+
+  from_polls : (rc : ℕ) → Polls x rc v → is_7_or_8 x.end.state ≡ true → IsMild x v
+  unfolding without_ack_pending
+  from_polls rc p opened =
+      let same = p.polled.waiting_is in
+      let open_still : is_7_or_8 v.station.end.state ≡ true = ap is_7_or_8 p.polled.in_8 in
+      with_frame p.frame p.outgoing (polling (kind p.frame) p.polls) (record {
+        fewer = omega (arith, same);
+        free = λ f _. ap (λ w. w.own_busy) p.polled.window ∙ f opened;
+        heard = λ ks.
+            let now = extra_open v.station.end ks open_still in
+            let was = extra_open x.end ks opened in omega (arith, now, was);
+        closes = λ shut. cc;
+      })
+
+  from_sees : (e : End) (there : List Flight) → Sees v e [] there → Keeps e
+      → Keeps v.station.end
+  from_sees e there s k = subst (λ d. Keeps d) (sym s.end) k
+
+module _ (x : Station) where
+  abbrev by : PairEvent → View
+  by event = left_by (seeing x [] []) (acts Whole side.User event (seeing x [] []))
+
+  abbrev expired : View
+  expired = by Expire200
+
+  t200_mild : HasTimersOfState x.end → x.end.t200 ≡ true → IsMild x (by Expire200)
+  t200_mild has on = by_state x.end.state refl
+    where
+      asks : IsLight (kind sabme)
+      asks = record { other = refl; plain = refl; light = omega arith }
+
+      in_5 : x.end.state ≡ AwaitingEstablishment → (b : Bool)
+          → nat_lt x.end.rc x.end.parameters.n200 ≡ b → IsMild x expired
+      in_5 is true more =
+          let e = asked_again x.end is in
+          let s = seen_after_t200 x e (sabme ∷ []) on (retry_in_5 x.end is on more) in
+          with_frame x expired sabme s.outgoing asks (from_sees x expired e (sabme ∷ []) s (record {
+            fewer = omega arith;
+            free = λ free. free;
+            heard = λ ks. omega arith;
+            closes = λ shut. inl shut;
+          }))
+      in_5 is false last =
+          let e = abandoned x.end is in
+          let s = seen_after_t200 x e [] on (give_up_in_5 x.end is on last) in
+          with_none x expired s.outgoing (from_sees x expired e [] s (record {
+            fewer = omega arith;
+            free = λ free opened. cc;
+            heard = λ ks. let none = extra_shut e ks refl (λ never. cc) in omega (arith, none);
+            closes = λ shut. inl (ap is_7_or_8 is);
+          }))
+
+      in_6 : x.end.state ≡ AwaitingRelease → (b : Bool) → nat_lt x.end.rc x.end.parameters.n200 ≡ b
+          → IsMild x expired
+      in_6 is true more =
+          let e = retried x.end is in
+          let s = seen_after_t200 x e (disc ∷ []) on (retry_in_6 x.end is on more) in
+          with_frame x expired disc s.outgoing
+          (record { other = refl; plain = refl; light = omega arith })
+          (from_sees x expired e (disc ∷ []) s (record {
+            fewer = omega arith;
+            free = λ free. free;
+            heard = λ ks. omega arith;
+            closes = λ shut. inl shut;
+          }))
+      in_6 is false last =
+          let e = released x.end is in
+          let s = seen_after_t200 x e [] on (give_up_in_6 x.end is on last) in
+          with_none x expired s.outgoing (from_sees x expired e [] s (record {
+            fewer = omega arith;
+            free = λ free opened. cc;
+            heard = λ ks. let none = extra_shut e ks refl (λ never. cc) in omega (arith, none);
+            closes = λ shut. inl (ap is_7_or_8 is);
+          }))
+
+      in_8 : x.end.state ≡ TimerRecovery → (b : Bool) → nat_lt x.end.rc x.end.parameters.n200 ≡ b
+          → IsMild x expired
+      in_8 is true more =
+          from_polls x expired (x.end.rc + 1) (polls_again x is on more) (ap is_7_or_8 is)
+      in_8 is false last =
+          let e = asking x.end in
+          let s = seen_after_t200 x e (sabme ∷ []) on (last_try_in_8 x.end is on last) in
+          with_frame x expired sabme s.outgoing asks (from_sees x expired e (sabme ∷ []) s (record {
+            fewer = omega arith;
+            free = λ free opened. cc;
+            heard = λ ks.
+                let few = extra_few e ks in
+                let was = extra_open x.end ks (ap is_7_or_8 is) in omega (arith, few, was);
+            closes = λ shut. inr is;
+          }))
+
+      by_state : (state : State) → x.end.state ≡ state → IsMild x expired
+      by_state TeiAssigned is = let off = (timers_in TeiAssigned x.end has is).0 in cc
+      by_state AwaitingEstablishment is = in_5 is (nat_lt x.end.rc x.end.parameters.n200) refl
+      by_state AwaitingRelease is = in_6 is (nat_lt x.end.rc x.end.parameters.n200) refl
+      by_state MultipleFrameEstablished is =
+          from_polls x expired 1 (polls_by_t200 x is on) (ap is_7_or_8 is)
+      by_state TimerRecovery is = in_8 is (nat_lt x.end.rc x.end.parameters.n200) refl
+
+  t203_mild : HasTimersOfState x.end → x.end.t203 ≡ true → IsMild x (by Expire203)
+  t203_mild has on = by_state x.end.state refl
+    where
+      by_state : (state : State) → x.end.state ≡ state → IsMild x (by Expire203)
+      by_state TeiAssigned is = let off = (timers_in TeiAssigned x.end has is).1 in cc
+      by_state AwaitingEstablishment is =
+          let off = (timers_in AwaitingEstablishment x.end has is).1 in cc
+      by_state AwaitingRelease is = let off = (timers_in AwaitingRelease x.end has is).1 in cc
+      by_state MultipleFrameEstablished is =
+          from_polls x (by Expire203) 0 (polls_by_t203 x is on) (ap is_7_or_8 is)
+      by_state TimerRecovery is = let off = (timers_in TimerRecovery x.end has is).1 in cc
+
+-- ---- The moves that a side accounts for.
+
+open_few : (state : State) (leaving : Bool) (u w m f e : ℕ) → is_7_or_8 state ≡ true → u ≤ w
+    → f ≤ 1 → m ≤ w - u → load_in state leaving u m f e ≤ 3 * w + 2
+open_few MultipleFrameEstablished leaving u w m f e opened le one some = omega (arith, le, one, some)
+open_few TimerRecovery leaving u w m f e opened le one some = omega (arith, le, one, some)
+open_few state leaving u w m f e opened le one some = cc
+
+-- whatever was sent: three for each message that waits, and the messages of a closed side
+load_few : (x y : Station) (base its_base : ℕ) (out back : List Kind) (n : ℕ)
+    → Both (party base x) (party its_base y) out back
+    → (is_7_or_8 x.end.state ≡ false → extra y.end out ≤ n)
+    → load x.end y.end out ≤ 3 * waiting x.end + 2 + n
+load_few x y base its_base out back n both closed = by_test (is_7_or_8 x.end.state) refl
+  where
+    by_test : (b : Bool) → is_7_or_8 x.end.state ≡ b
+        → load x.end y.end out ≤ 3 * waiting x.end + 2 + n
+    by_test false shut =
+        let all = side_few x y base its_base out back both in
+        let few = closed shut in omega (arith, all, few)
+    by_test true opened =
+        let p = party base x in
+        let le : x.end.first ≤ x.end.next =
+        in_queue p.state p.asked p.leaving p.sends both.mine.preserved in
+        let queue : unsent x.end ≤ waiting x.end = omega (arith, le) in
+        let all =
+        open_few x.end.state x.end.release_pending (unsent x.end) (waiting x.end)
+        (missing x.end y.end) (fresh y.end.window.rejecting) (extra y.end out) opened queue
+        (fresh_few y.end.window.rejecting)
+        (missing_few x y base its_base out back both opened) in omega (arith, all)
+
+-- a closed side accounts for its messages in transit
+closed_counts : (x y : End) (out back : List Kind) (n : ℕ) → is_7_or_8 x.state ≡ false
+    → Share x y out back n → extra y out ≤ n
+closed_counts x y out back n shut (inl enough) =
+    let least =
+    load_least x.state x.release_pending (unsent x) (missing x y) (fresh y.window.rejecting)
+    (extra y out) shut in omega (arith, least, enough)
+closed_counts x y out back n shut (inr s) =
+    let opened : is_7_or_8 x.state ≡ true = ap is_7_or_8 s.0.in_7 in cc
+
+plain_few : (role : Role) (control : Control) (info : List ℕ) (place : ℕ)
+    → plain_of (kind_of role control info place) ≤ one_if (is_message control)
+plain_few Command (I ns nr true) info place = omega arith
+plain_few Command (I ns nr false) info place = omega arith
+plain_few Command (Rr nr true) info place = omega arith
+plain_few Command (Rr nr false) info place = omega arith
+plain_few Command (Rnr nr true) info place = omega arith
+plain_few Command (Rnr nr false) info place = omega arith
+plain_few Command (Rej nr true) info place = omega arith
+plain_few Command (Rej nr false) info place = omega arith
+plain_few Command (Sabme true) info place = omega arith
+plain_few Command (Sabme false) info place = omega arith
+plain_few Command (Dm true) info place = omega arith
+plain_few Command (Dm false) info place = omega arith
+plain_few Command (Disc true) info place = omega arith
+plain_few Command (Disc false) info place = omega arith
+plain_few Command (Ua true) info place = omega arith
+plain_few Command (Ua false) info place = omega arith
+plain_few Answer (Rr nr true) info place = omega arith
+plain_few Answer (Rr nr false) info place = omega arith
+plain_few Answer (Rnr nr true) info place = omega arith
+plain_few Answer (Rnr nr false) info place = omega arith
+plain_few Answer (Rej nr true) info place = omega arith
+plain_few Answer (Rej nr false) info place = omega arith
+plain_few Answer (Sabme true) info place = omega arith
+plain_few Answer (Sabme false) info place = omega arith
+plain_few Answer (Dm true) info place = omega arith
+plain_few Answer (Dm false) info place = omega arith
+plain_few Answer (Disc true) info place = omega arith
+plain_few Answer (Disc false) info place = omega arith
+plain_few Answer (Ua true) info place = omega arith
+plain_few Answer (Ua false) info place = omega arith
+plain_few role control info place = omega arith
+
+messages_plain : (l : List Flight) → tally plain_of (kinds l) ≤ messages_in l
+messages_plain [] = omega arith
+messages_plain (f ∷ fs) =
+    let one = plain_few f.role f.control f.info f.place in
+    let rest = messages_plain fs in omega (arith, one, rest)
+
+-- ---- The world.
+
+-- n bounds the deliveries that the line needs after the expiry
+pub record ExpiresBeside (n : ℕ) (w now : World) : Type 0 where
+  pub flow : Flow n now
+  pub user_fewer : waiting now.user.end ≤ waiting w.user.end
+  pub network_fewer : waiting now.network.end ≤ waiting w.network.end
+  pub user_free : IsFree w.user.end → IsFree now.user.end
+  pub network_free : IsFree w.network.end → IsFree now.network.end
+
+abbrev after : Side → PairEvent → World → World
+after s event w = world_after w (happens Whole (record { side = s; event = event }) w)
+
+-- at most `late` messages of an end in state 8 are in transit
+module _ (m late : ℕ) (x y : Station) (to_user to_network : List Flight)
+    (i : IsInvariant (at x y to_user to_network)) (flow : Flow m (at x y to_user to_network))
+    (few : x.end.state ≡ TimerRecovery → messages_in to_network ≤ late) where
+  abbrev w : World
+  w = at x y to_user to_network
+
+  abbrev most : ℕ
+  most = m + 3 * waiting x.end + 3 * waiting y.end + 6 + late
+
+  in_view : (v : View) (quiet : View) → IsInvariant (with_view side.User v w)
+      → IsBeside to_user to_network quiet v → IsMild x quiet
+      → ExpiresBeside most w (with_view side.User v w)
+  in_view v quiet now b k =
+      let out = kinds v.outgoing in
+      let back = kinds v.incoming in
+      let new = kinds quiet.outgoing in
+      let out_is : out ≡ kinds to_network ++ new =
+      ap kinds b.outgoing_is ∙ kinds_append to_network quiet.outgoing in
+      let back_is : back ≡ kinds to_user = ap kinds b.incoming_is in
+      let its_now : Both (party now.network_base y) (party now.user_base v.station) back out =
+      record { mine = now.both.its; its = now.both.mine } in
+      let mine =
+      load_few v.station y now.user_base now.network_base out back (flow.a + late) now.both
+      (λ shut. overtakes out new out_is (k.passed y.end (kinds to_network))
+      (k.closes (subst (λ e. is_7_or_8 e.state ≡ false) b.end shut))) in
+      let its =
+      load_few y v.station now.network_base now.user_base back out flow.b its_now
+      (λ shut. heard_less back back_is
+      (subst (λ e. extra e (kinds to_user) ≤ extra x.end (kinds to_user)) (sym b.end)
+      (k.heard (kinds to_user))) shut) in
+      let sum = ap (λ ks. weigh ks) out_is ∙ tally_append weight_of (kinds to_network) new in
+      let same : weigh back ≡ weigh (kinds to_user) = ap (λ ks. weigh ks) back_is in
+      let light = k.light in
+      let all = flow.most in
+      let fewer : waiting v.station.end ≤ waiting x.end =
+      subst (λ e. waiting e ≤ waiting x.end) (sym b.end) k.fewer in
+      record {
+        flow = record {
+          a = load v.station.end y.end out;
+          b = load y.end v.station.end back;
+          mine = inl (omega arith);
+          its = inl (omega arith);
+          most = omega (arith, mine, its, sum, same, light, all, fewer);
+        };
+        user_fewer = fewer;
+        network_fewer = omega arith;
+        user_free = λ free. subst IsFree (sym b.end) (k.free free);
+        network_free = λ free. free;
+      }
+    where
+      overtakes : (out new : List Kind) → out ≡ kinds to_network ++ new
+          → extra y.end (kinds to_network ++ new) ≤ extra y.end (kinds to_network)
+          → (is_7_or_8 x.end.state ≡ false) ⊎ (x.end.state ≡ TimerRecovery)
+          → extra y.end out ≤ flow.a + late
+      overtakes out new is passed (inl shut) =
+          let same = ap (λ ks. extra y.end ks) is in
+          let counts = closed_counts x.end y.end (kinds to_network) (kinds to_user) flow.a shut
+          flow.mine in
+          omega (arith, same, passed, counts)
+      overtakes out new is passed (inr in_8) =
+          let same = ap (λ ks. extra y.end ks) is in
+          let all = extra_few y.end (kinds to_network) in
+          let plain = messages_plain to_network in
+          let at_most = few in_8 in
+          omega (arith, same, passed, all, plain, at_most)
+
+      heard_less : (back : List Kind) → back ≡ kinds to_user
+          → extra v.station.end (kinds to_user) ≤ extra x.end (kinds to_user)
+          → is_7_or_8 y.end.state ≡ false → extra v.station.end back ≤ flow.b
+      heard_less back is less shut =
+          let same = ap (λ ks. extra v.station.end ks) is in
+          let counts = closed_counts y.end x.end (kinds to_user) (kinds to_network) flow.b shut
+          flow.its in
+          omega (arith, same, less, counts)
+
+  by_event : (event : PairEvent)
+      → IsBeside to_user to_network (by x event)
+      (left_by (seeing x to_user to_network)
+      (acts Whole side.User event (seeing x to_user to_network)))
+      → IsMild x (by x event) → ExpiresBeside most w (after side.User event w)
+  by_event event b k =
+      let v =
+      left_by (seeing x to_user to_network)
+      (acts Whole side.User event (seeing x to_user to_network)) in
+      let now : IsInvariant (with_view side.User v w) =
+      subst IsInvariant (moved_user event w) (each_move_preserves (user_move event) w i) in
+      subst (λ u. ExpiresBeside most w u) (sym (moved_user event w))
+      (in_view v (by x event) now b k)
+
+  user_expires_200 : HasTimersOfState x.end
+      → is_ok (acts Whole side.User Expire200 (seeing x to_user to_network)) ≡ true
+      → ExpiresBeside most w (after side.User Expire200 w)
+  user_expires_200 has ok =
+      by_event Expire200 (t200_beside x to_user to_network ok)
+      (t200_mild x has (t200_runs (seeing x to_user to_network) ok))
+
+  user_expires_203 : HasTimersOfState x.end
+      → is_ok (acts Whole side.User Expire203 (seeing x to_user to_network)) ≡ true
+      → ExpiresBeside most w (after side.User Expire203 w)
+  user_expires_203 has ok =
+      by_event Expire203 (t203_beside x to_user to_network ok)
+      (t203_mild x has (t203_runs (seeing x to_user to_network) ok))
+
+-- ---- Either side.
+
+expires_swapped : (n : ℕ) (w now : World) → ExpiresBeside n (swapped w) now
+    → ExpiresBeside n w (swapped now)
+expires_swapped n w now e = record {
+  flow = flowing_turned e.flow;
+  user_fewer = e.network_fewer;
+  network_fewer = e.user_fewer;
+  user_free = e.network_free;
+  network_free = e.user_free;
+}
+
+-- the number of deliveries after the expiry of this timer
+abbrev pub most_beside : ℕ → Side → PairEvent → World → ℕ
+most_beside m s event w =
+    m + 3 * waiting w.user.end + 3 * waiting w.network.end + 6
+    + overtaken_by event (view_of s w)
+
+in_8_few : (state : State) (n : ℕ) → state ≡ TimerRecovery → n ≤ if_in_8 state n
+in_8_few TimerRecovery n is = omega arith
+in_8_few state n is = cc
+
+by_user_200 : (m : ℕ) (x y : Station) (to_user to_network : List Flight)
+    → IsInvariant (at x y to_user to_network) → HaveTimersOfStates (at x y to_user to_network)
+    → Flow m (at x y to_user to_network)
+    → is_ok (acts Whole side.User Expire200 (seeing x to_user to_network)) ≡ true
+    → ExpiresBeside
+    (most_beside m side.User Expire200 (at x y to_user to_network))
+    (at x y to_user to_network)
+    (after side.User Expire200 (at x y to_user to_network))
+by_user_200 m x y to_user to_network i have flow ok =
+    user_expires_200 m (if_in_8 x.end.state (messages_in to_network)) x y to_user to_network i flow
+    (λ is. in_8_few x.end.state (messages_in to_network) is) have.user ok
+
+by_user_203 : (m : ℕ) (x y : Station) (to_user to_network : List Flight)
+    → IsInvariant (at x y to_user to_network) → HaveTimersOfStates (at x y to_user to_network)
+    → Flow m (at x y to_user to_network)
+    → is_ok (acts Whole side.User Expire203 (seeing x to_user to_network)) ≡ true
+    → ExpiresBeside
+    (most_beside m side.User Expire203 (at x y to_user to_network))
+    (at x y to_user to_network)
+    (after side.User Expire203 (at x y to_user to_network))
+by_user_203 m x y to_user to_network i have flow ok =
+    user_expires_203 m 0 x y to_user to_network i flow
+    (λ is. let off = (timers_in TimerRecovery x.end have.user is).1 in
+    let on = t203_runs (seeing x to_user to_network) ok in cc) have.user ok
+
+module _ (m : ℕ) (x y : Station) (to_user to_network : List Flight)
+    (i : IsInvariant (at x y to_user to_network))
+    (have : HaveTimersOfStates (at x y to_user to_network))
+    (flow : Flow m (at x y to_user to_network)) where
+  abbrev world : World
+  world = at x y to_user to_network
+
+  -- the network's timer, as the user's in the world with the sides exchanged
+  by_network : (event : PairEvent)
+      → ExpiresBeside (most_beside m side.User event (swapped world)) (swapped world)
+      (after side.User event (swapped world))
+      → ExpiresBeside (most_beside m side.Network event world) world
+      (after side.Network event world)
+  by_network event e =
+      let now = after side.User event (swapped world) in
+      let same : most_beside m side.User event (swapped world)
+      ≡ most_beside m side.Network event world = omega arith in
+      subst (λ u. ExpiresBeside (most_beside m side.Network event world) world u)
+      (sym (network_alike Whole event world))
+      (subst (λ n. ExpiresBeside n world (swapped now)) same
+      (expires_swapped (most_beside m side.User event (swapped world)) world now e))
+
+  have_swapped : HaveTimersOfStates (swapped world)
+  have_swapped = record { user = have.network; network = have.user }
+
+  pub t200_early : (s : Side)
+      → is_ok (happens Whole (record { side = s; event = Expire200 }) world) ≡ true
+      → ExpiresBeside (most_beside m s Expire200 world) world (after s Expire200 world)
+  t200_early side.User ok =
+      by_user_200 m x y to_user to_network i have flow (ok_of_side side.User Expire200 world ok)
+  t200_early side.Network ok =
+      by_network Expire200 (by_user_200 m y x to_network to_user (exchanged world i) have_swapped
+      (flowing_turned flow) (ok_of_side side.Network Expire200 world ok))
+
+  pub t203_early : (s : Side)
+      → is_ok (happens Whole (record { side = s; event = Expire203 }) world) ≡ true
+      → ExpiresBeside (most_beside m s Expire203 world) world (after s Expire203 world)
+  t203_early side.User ok =
+      by_user_203 m x y to_user to_network i have flow (ok_of_side side.User Expire203 world ok)
+  t203_early side.Network ok =
+      by_network Expire203 (by_user_203 m y x to_network to_user (exchanged world i) have_swapped
+      (flowing_turned flow) (ok_of_side side.Network Expire203 world ok))

@@ -1,0 +1,5 @@
+use Rattle.lapd_recovery_laws.proofs.WorkedTimers.{t200_counts, t203_counts, overtakes}
+use Rattle.lapd_recovery_laws.proofs.recovery.early_timers_are_computed.Goals as goal
+
+pub returns : goal.returns
+returns c = record { t200_counts = t200_counts; t203_counts = t203_counts; overtakes = overtakes }
