@@ -27,7 +27,7 @@ use Rattle.lapd_c.specs.Codes.{done, pending, out_of_range, check_runs, not_coun
 use Rattle.lapd_c.specs.Counters.{call_counted, counters_of, flat_counters, no_counters, nothing_counted}
 use Rattle.lapd_c.specs.FlatPrimitives.{flat, flat_frame, nothing, octets_of}
 use Rattle.lapd_c.specs.LinkStates.{state_of, no_state}
-use Rattle.lapd_c.specs.SideQueries.{HasCheck, HasTerminal, link_meant, meant, state_of_terminal, tei_of_terminal}
+use Rattle.lapd_c.specs.SideQueries.{HasCheck, HasTerminal, link_meant, link_of_call, state_of_terminal, tei_of_terminal}
 
 -- ---- The results that wait to be fetched.
 
@@ -199,7 +199,7 @@ pub record ReturnsState (id : LinkId) (delivered : LinkState) (old new : HeldSid
   pub has_terminal : HasTerminal old.queued.side terminal
   pub table : LinkTable
   pub has_table : HasTable old.queued.side table
-  pub link : ReturnsLink delivered code (link_meant table (meant terminal id))
+  pub link : ReturnsLink delivered code (link_meant table (link_of_call terminal id))
 
 -- the state and the TEI of the terminal
 pub record ReturnsTerminal (state tei : ℕ) (old new : HeldSide) (code : ℕ) : Type 0 where

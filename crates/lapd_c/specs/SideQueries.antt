@@ -49,9 +49,9 @@ abbrev pub with_own_tei : LinkId → Option ℕ → Option LinkId
 with_own_tei id None = None
 with_own_tei id (Some tei) = Some (of_sapi id.sapi tei)
 
-abbrev pub meant : Option Phase → LinkId → Option LinkId
-meant None id = Some id
-meant (Some phase) id = with_own_tei id (tei_of phase)
+abbrev pub link_of_call : Option Phase → LinkId → Option LinkId
+link_of_call None id = Some id
+link_of_call (Some phase) id = with_own_tei id (tei_of phase)
 
 abbrev pub link_meant : LinkTable → Option LinkId → Option Link
 link_meant table None = None

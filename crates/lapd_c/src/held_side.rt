@@ -6,7 +6,7 @@ ghost use Rattle.lapd_sides.specs.Either.{Takes, Answers, Gives};
 ghost use Rattle.lapd_sides.specs.Queued.{LacksRoom};
 ghost use Rattle.lapd_c.specs.Calls.{or_never, waiting, items_waiting, is_full, Asks, BeginsCounting, Checks, HasSetTimers, IsReady, Ticks, TicksReady, ReturnsCounters, ReturnsDeadline, ReturnsDiscarded, ReturnsState, ReturnsTerminal, FetchesFrame, FetchesItem, FetchesNext, FetchesPrimitive, overwritten};
 ghost use Rattle.lapd_c.specs.TeiLists.{HasTeis, ReturnsLinks, ReturnsList, ReturnsTeis};
-ghost use Rattle.lapd_c.specs.SideQueries.{HasCheck, HasTerminal, link_meant, meant, or_no_tei, state_of_terminal, tei_of_terminal, with_own_tei};
+ghost use Rattle.lapd_c.specs.SideQueries.{HasCheck, HasTerminal, link_meant, link_of_call, or_no_tei, state_of_terminal, tei_of_terminal, with_own_tei};
 
 use crate::codes::{
     CHECK_RUNS, DONE, MEMORY, NO_LINK, NOT_COUNTING, OUT_OF_RANGE, PENDING, code_of,
@@ -275,7 +275,10 @@ impl HeldSide {
     pub(crate) fn state(&self, id: LinkId, state: &mut LinkState) -> u32
         ensures { ReturnsState id state.new self.now self.now result }
     {
-        match link_meant(self.queued.side().table(), meant(self.terminal(), id)) {
+        match link_meant(
+            self.queued.side().table(),
+            link_of_call(self.terminal(), id),
+        ) {
             Some(link) => {
                 *state = LinkState::of(link);
                 DONE
@@ -454,8 +457,8 @@ fn or_no_tei(tei: Option<Tei>) -> u8
 }
 
 /// The id of the link that C means: on a user side, that of the terminal's own TEI.
-fn meant(terminal: Option<&Terminal>, id: LinkId) -> Option<LinkId>
-    ensures { result ≡ meant (option_copied terminal.entry) id }
+fn link_of_call(terminal: Option<&Terminal>, id: LinkId) -> Option<LinkId>
+    ensures { result ≡ link_of_call (option_copied terminal.entry) id }
 {
     match terminal {
         Some(terminal) => with_own_tei(id, terminal.tei()),

@@ -33,7 +33,7 @@ behaviour rules config = record {
   takes = takes rules config;
   expires = expires rules config;
   requested = rules.requested config;
-  means = λ s id. or_named id (rules.meant s.management id);
+  means = λ s id. or_named id (rules.link_of_call s.management id);
   served = λ s. s.served;
   fresh = fresh_link config;
 }

@@ -346,12 +346,12 @@ module _ {C M : Type 0} (represents : C → M → Type 0) (rules : Rules M) wher
 
   -- the link that is meant has sent the message
   pub sent : ((config : Config) (id own : LinkId) (message : Message) (now : ℕ) (s : SideState M)
-      → rules.meant s.management id ≡ Some own
+      → rules.link_of_call s.management id ≡ Some own
       → rules.requested config (Give id message) now s
       ≡ link_of rules.side now own (input.Give message.items) [] s)
       → (code : ManagedSide C) (links : LinkSet) (id own : LinkId) (message : Message) (now : ℕ)
       (acts : Effects)
-      → ((m : M) → represents code.management m → rules.meant m id ≡ Some own)
+      → ((m : M) → represents code.management m → rules.link_of_call m id ≡ Some own)
       → LinksDo code.served.links links no_effects acts (λ side. in_links own
       (link_acts side own now (input.Give message.items) []))
       → Grants (Shows represents rules) code (relinked code links) acts

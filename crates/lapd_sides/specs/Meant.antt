@@ -23,7 +23,7 @@ use Rattle.lapd_sides.specs.User.{User, for_layer_3, own_link, user_requested, w
 -- ---- The network side.
 
 pub gives_to_link : (config : Config) (id own : LinkId) (message : messages.Message) (now : ℕ)
-    (s : Network) → network_rules.meant s.management id ≡ Some own
+    (s : Network) → network_rules.link_of_call s.management id ≡ Some own
     → network_requested config (request.Give id message) now s
     ≡ link_of side.Network now own (Give message.items) [] s
 unfolding network_requested link_of

@@ -114,5 +114,5 @@ network_rules = record {
   times_out = λ config now s. assigner_acts config now event.T201 s;
   is_for_layer_3 = λ config frame. false;
   requested = λ config request now s. network_requested config request now s;
-  meant = λ a id. Some id;
+  link_of_call = λ a id. Some id;
 }

@@ -46,7 +46,7 @@ pub record Rules (M : Type 0) : Type 0 where
   -- executes or refuses a request
   pub requested : Config → Request → ℕ → SideState M → Result (Reaction (SideState M)) SideKind
   -- the link that a caller means who names this one, if any
-  pub meant : M → LinkId → Option LinkId
+  pub link_of_call : M → LinkId → Option LinkId
 
 -- nothing happens
 abbrev pub unmoved : {M : Type 0} → SideState M → Reaction (SideState M)

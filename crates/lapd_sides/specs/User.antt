@@ -243,5 +243,5 @@ user_rules = record {
   times_out = λ config now s. terminal_acts config now event.T202 s;
   is_for_layer_3 = for_layer_3;
   requested = λ config request now s. user_requested config request now s;
-  meant = λ m id. own_link m.terminal id;
+  link_of_call = λ m id. own_link m.terminal id;
 }

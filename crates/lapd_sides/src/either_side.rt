@@ -142,7 +142,7 @@ impl EitherSide {
 
     /// The link that a caller means who names this one. `None` without a TEI.
     #[inline(always)]
-    fn meant(&self, id: &LinkId) -> Option<LinkId>
+    fn link_of_call(&self, id: &LinkId) -> Option<LinkId>
         ensures { result ≡ meant_by self.now id.now }
     {
         match self {
@@ -197,7 +197,7 @@ impl EitherSide {
             ((self.new ≡ self.old) × (acts.new ≡ acts.old)) result }
     {
         let alloc = self.alloc();
-        match self.meant(id) {
+        match self.link_of_call(id) {
             Some(own) => self
                 .served()
                 .links

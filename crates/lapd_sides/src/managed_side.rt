@@ -129,7 +129,7 @@ impl<M: Management> ManagedSide<M> {
     {
         if carries_message(frame) {
             match TeiMessage::read(frame.info()) {
-                Ok(message) => M::hear(self, message, now, acts),
+                Ok(message) => M::receive_message(self, message, now, acts),
                 Err(_) => Ok(()),
             }
         } else {
@@ -169,7 +169,7 @@ impl<M: Management> ManagedSide<M> {
             Expired::Nothing => false,
             Expired::Link => true,
             Expired::Management => {
-                M::time_out(self, now, acts);
+                M::expire_timer(self, now, acts);
                 true
             }
         }
@@ -245,10 +245,11 @@ impl<M: Management> ManagedSide<M> {
             (λ given. Grants (Shows M.represents M.rules) self.old self.new given
             (λ config. M.rules.requested config (Request.Give id.now message) now)))
             (EachShown (Shows M.represents M.rules) self.old (λ s.
-            sends_at_once (M.rules.meant s.management id.now) octets.now s.served.links ≡ false))
+            sends_at_once (M.rules.link_of_call s.management id.now) octets.now s.served.links
+            ≡ false))
             ((self.new ≡ self.old) × (acts.new ≡ acts.old)) result }
     {
-        match self.management.meant(id) {
+        match self.management.link_of_call(id) {
             Some(own) => self
                 .served
                 .links

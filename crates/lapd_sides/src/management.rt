@@ -41,8 +41,9 @@ pub trait Management: Represented {
         ensures { result ≡ Self.rules.is_for_layer_3 config.now frame.now };
 
     /// The link that a caller means who names this one. `None` without a TEI.
-    fn meant(&self, id: &LinkId) -> Option<LinkId>
-        ensures { (m : Self.State) → Self.represents self.now m → result ≡ Self.rules.meant m id.now };
+    fn link_of_call(&self, id: &LinkId) -> Option<LinkId>
+        ensures { (m : Self.State) → Self.represents self.now m
+            → result ≡ Self.rules.link_of_call m id.now };
 
     /// Processes a TEI message. The links of a TEI that is assigned or obtained are added before
     /// anything else is changed.
@@ -50,7 +51,7 @@ pub trait Management: Represented {
     /// # Errors
     ///
     /// `AllocError` if an allocation failed. The side is unchanged.
-    fn hear(
+    fn receive_message(
         side: &mut ManagedSide<Self>,
         message: TeiMessage,
         now: u64,
@@ -61,7 +62,7 @@ pub trait Management: Represented {
             (λ s. Self.rules.given s.management message) (λ config. Self.rules.hears config now message) };
 
     /// Processes the expiry of its timer, which is stopped.
-    fn time_out(side: &mut ManagedSide<Self>, now: u64, acts: &mut Acts)
+    fn expire_timer(side: &mut ManagedSide<Self>, now: u64, acts: &mut Acts)
         requires empty { IsEmpty acts.old }
         ensures { SideDoes (Shows Self.represents Self.rules) side.old side.new acts.new
             (λ config. Self.rules.times_out config now) };
@@ -87,7 +88,7 @@ pub trait Management: Represented {
 
     // a message is for the link that is meant
     ghost gives_to_meant: { (config : Config) (id own : LinkId) (message : Message) (now : ℕ)
-        (s : SideState Self.State) → Self.rules.meant s.management id ≡ Some own
+        (s : SideState Self.State) → Self.rules.link_of_call s.management id ≡ Some own
         → Self.rules.requested config (request.Give id message) now s
         ≡ link_of Self.rules.side now own (Give message.items) [] s };
 }

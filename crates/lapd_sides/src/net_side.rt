@@ -49,11 +49,11 @@ impl Management for Assigner {
     }
 
     #[inline(always)]
-    fn meant(&self, id: &LinkId) -> Option<LinkId> {
+    fn link_of_call(&self, id: &LinkId) -> Option<LinkId> {
         Some(*id)
     }
 
-    fn hear(
+    fn receive_message(
         side: &mut NetSide,
         message: TeiMessage,
         now: u64,
@@ -69,7 +69,7 @@ impl Management for Assigner {
         Ok(())
     }
 
-    fn time_out(side: &mut NetSide, now: u64, acts: &mut Acts) {
+    fn expire_timer(side: &mut NetSide, now: u64, acts: &mut Acts) {
         side.manage(AssignerEvent::T201, now, acts);
     }
 

@@ -58,11 +58,11 @@ impl Management for TerminalManagement {
     }
 
     #[inline(always)]
-    fn meant(&self, id: &LinkId) -> Option<LinkId> {
+    fn link_of_call(&self, id: &LinkId) -> Option<LinkId> {
         self.own_link(id)
     }
 
-    fn hear(
+    fn receive_message(
         side: &mut UserSide,
         message: TeiMessage,
         now: u64,
@@ -79,7 +79,7 @@ impl Management for TerminalManagement {
     }
 
     /// Stops T202, which has expired, and processes its expiry.
-    fn time_out(side: &mut UserSide, now: u64, acts: &mut Acts) {
+    fn expire_timer(side: &mut UserSide, now: u64, acts: &mut Acts) {
         let event = TerminalEvent::T202(side.management.references.next());
         side.manage(event, now, acts);
     }
@@ -92,17 +92,17 @@ impl Management for TerminalManagement {
         acts: &mut Acts,
     ) -> Result<(), SideFault> {
         if let Request::AskTei = &request {
-            side.ask(now, acts);
+            side.request_tei(now, acts);
             return Ok(());
         }
         if let Request::Remove(tei) = &request {
-            return side.give_up(*tei, now, acts);
+            return side.return_tei(*tei, now, acts);
         }
         match request {
             Request::Establish(id) => side.establish(id.sapi, now, acts),
             Request::Release(id) => side.release(id.sapi, now, acts),
-            Request::Busy(id, true) => side.be_busy(id.sapi, Event::BusyOn, now, acts),
-            Request::Busy(id, false) => side.be_busy(id.sapi, Event::BusyOff, now, acts),
+            Request::Busy(id, true) => side.set_own_busy(id.sapi, Event::BusyOn, now, acts),
+            Request::Busy(id, false) => side.set_own_busy(id.sapi, Event::BusyOff, now, acts),
             Request::Unit(id, octets) => side.send_unit(id.sapi, octets, now, acts),
             Request::Give(id, message) => side.give_message(id.sapi, message, now, acts),
             Request::AskTei
@@ -180,13 +180,13 @@ impl UserSide {
             (wants config now sapi s) s) }
     {
         match self.management.terminal.tei() {
-            Some(tei) => self.act(name(sapi, tei), Event::Establish, now, acts),
-            None => self.want(sapi, now, acts),
+            Some(tei) => self.act(link_id(sapi, tei), Event::Establish, now, acts),
+            None => self.keep_pending(sapi, now, acts),
         }
     }
 
     /// Keeps an establishment without a TEI for its SAPI, if that is served, and requests a TEI.
-    fn want(&mut self, sapi: Sapi, now: u64, acts: &mut Acts) -> Result<(), SideFault>
+    fn keep_pending(&mut self, sapi: Sapi, now: u64, acts: &mut Acts) -> Result<(), SideFault>
         requires empty { IsEmpty acts.old }
         ensures { Answers ShowUser result self.old self.new acts.new None (λ config. wants config now sapi) }
     {
@@ -206,13 +206,13 @@ impl UserSide {
             (λ _ s. with_tei_or now s.management.terminal sapi Release [] (forgets sapi s) s) }
     {
         match self.management.terminal.tei() {
-            Some(tei) => self.act(name(sapi, tei), Event::Release, now, acts),
-            None => self.forget(sapi, acts),
+            Some(tei) => self.act(link_id(sapi, tei), Event::Release, now, acts),
+            None => self.drop_pending(sapi, acts),
         }
     }
 
     /// Forgets a kept establishment. The terminal continues to request a TEI.
-    fn forget(&mut self, sapi: Sapi, acts: &mut Acts) -> Result<(), SideFault>
+    fn drop_pending(&mut self, sapi: Sapi, acts: &mut Acts) -> Result<(), SideFault>
         requires empty { IsEmpty acts.old }
         ensures { Answers ShowUser result self.old self.new acts.new None (λ _. forgets sapi) }
     {
@@ -225,7 +225,7 @@ impl UserSide {
     }
 
     /// Sets or clears own receiver busy on the link of this SAPI.
-    fn be_busy(
+    fn set_own_busy(
         &mut self,
         sapi: Sapi,
         event: Event,
@@ -238,7 +238,7 @@ impl UserSide {
             (λ _ s. with_tei_or now s.management.terminal sapi (input_of event.entry) [] (Err NoLink) s) }
     {
         match self.management.terminal.tei() {
-            Some(tei) => self.act(name(sapi, tei), event, now, acts),
+            Some(tei) => self.act(link_id(sapi, tei), event, now, acts),
             None => Err(without_message(SideKind::NoLink)),
         }
     }
@@ -262,7 +262,7 @@ impl UserSide {
         let sent = self
             .served
             .links
-            .send_unit(&name(sapi, tei), octets.as_slice(), now, acts);
+            .send_unit(&link_id(sapi, tei), octets.as_slice(), now, acts);
         match sent {
             Ok(()) => Ok(()),
             Err(kind) => Err(refused(kind, octets)),
@@ -283,13 +283,16 @@ impl UserSide {
             (Err (Link NotEstablished)) s) }
     {
         match self.management.terminal.tei() {
-            Some(tei) => self.served.links.give(&name(sapi, tei), message, now, acts),
+            Some(tei) => self
+                .served
+                .links
+                .give(&link_id(sapi, tei), message, now, acts),
             None => Err(refused(SideKind::Link(LinkFault::NotEstablished), message)),
         }
     }
 
     /// Gives up the terminal's TEI, if it is this one (Q.921 5.3.4).
-    fn give_up(&mut self, tei: Tei, now: u64, acts: &mut Acts) -> Result<(), SideFault>
+    fn return_tei(&mut self, tei: Tei, now: u64, acts: &mut Acts) -> Result<(), SideFault>
         requires empty { IsEmpty acts.old }
         ensures { Answers ShowUser result self.old self.new acts.new None
             (λ config. gives_up config now tei) }
@@ -297,7 +300,7 @@ impl UserSide {
         if !has_tei(self.management.terminal.tei(), tei) {
             return Err(without_message(SideKind::NoLink));
         }
-        self.leave(now, acts);
+        self.release_tei(now, acts);
         Ok(())
     }
 }
@@ -305,7 +308,7 @@ impl UserSide {
 /// TEI management.
 impl UserSide {
     /// Requests a TEI.
-    fn ask(&mut self, now: u64, acts: &mut Acts)
+    fn request_tei(&mut self, now: u64, acts: &mut Acts)
         requires { IsEmpty acts.old }
         ensures { SideDoes ShowUser self.old self.new acts.new
             (λ config. terminal_acts config now TerminalEvent.Ask) }
@@ -315,7 +318,7 @@ impl UserSide {
     }
 
     /// Gives up the terminal's TEI.
-    fn leave(&mut self, now: u64, acts: &mut Acts)
+    fn release_tei(&mut self, now: u64, acts: &mut Acts)
         requires { IsEmpty acts.old }
         ensures { SideDoes ShowUser self.old self.new acts.new
             (λ config. terminal_acts config now (λ _. TerminalEvent.Leave)) }
@@ -344,12 +347,12 @@ impl UserSide {
     {
         self.management.references.advance_if(sends_message(outs));
         self.served.carry_out(Side::User, outs, now, acts);
-        self.settle_pending(outs, now, acts);
+        self.resolve_pending(outs, now, acts);
     }
 
     /// Settles the kept establishments after these outputs: executes them if a TEI was obtained,
     /// and releases them if none was.
-    fn settle_pending(&mut self, outs: &[TeiOut], now: u64, acts: &mut Acts)
+    fn resolve_pending(&mut self, outs: &[TeiOut], now: u64, acts: &mut Acts)
         requires frame_room { length acts.old.frames ≤ MOST_TEI_OUTPUTS + 2 }
         requires primitive_room { length acts.old.primitives ≤ MOST_TEI_OUTPUTS + 2 }
         ensures { Follows ShowUser self.old self.new acts.old acts.new (λ _. pending_after now outs.now) }
@@ -371,10 +374,10 @@ impl UserSide {
     {
         let pending = self.management.pending;
         self.management.pending = PendingEstablishments::nothing();
-        self.establish_if(pending.has(Sapi::Call), name(Sapi::Call, tei), now, acts);
+        self.establish_if(pending.has(Sapi::Call), link_id(Sapi::Call, tei), now, acts);
         self.establish_if(
             pending.has(Sapi::Packet),
-            name(Sapi::Packet, tei),
+            link_id(Sapi::Packet, tei),
             now,
             acts,
         );
@@ -440,7 +443,7 @@ fn release_if(pending: bool, sapi: Sapi, acts: &mut Acts)
 }
 
 /// The id of a link.
-fn name(sapi: Sapi, tei: Tei) -> LinkId
+fn link_id(sapi: Sapi, tei: Tei) -> LinkId
     ensures { result ≡ of_sapi sapi tei }
 {
     LinkId { sapi, tei }

@@ -77,12 +77,12 @@ impl LinkSet {
         ensures ok { OnOk result (Becomes self.old self.new (with_tei config.now tei)) }
         ensures unchanged { OnErr result (ShowsLinksAsBefore self.old self.new) }
     {
-        let call = name(Sapi::Call, tei);
+        let call = link_id(Sapi::Call, tei);
         let is_added = self.add(alloc, &call, config.params0, config.durations)?;
         if !config.sapi16 {
             return Ok(());
         }
-        let packet = name(Sapi::Packet, tei);
+        let packet = link_id(Sapi::Packet, tei);
         let Ok(_) = self.add(alloc, &packet, config.params16, config.durations) else {
             if is_added {
                 self.remove(&call);
@@ -157,8 +157,8 @@ impl LinkSet {
         ensures frames { acts.new.frames ≡ acts.old.frames }
         ensures at_most { length acts.new.primitives ≤ length acts.old.primitives + 2 }
     {
-        self.remove_and_deliver(&name(Sapi::Call, tei), acts);
-        self.remove_and_deliver(&name(Sapi::Packet, tei), acts);
+        self.remove_and_deliver(&link_id(Sapi::Call, tei), acts);
+        self.remove_and_deliver(&link_id(Sapi::Packet, tei), acts);
     }
 
     /// Removes the link with this id, and reports its release.
@@ -700,7 +700,7 @@ fn own_tei(tei: u8) -> Tei
 }
 
 /// The id of a link.
-fn name(sapi: Sapi, tei: Tei) -> LinkId
+fn link_id(sapi: Sapi, tei: Tei) -> LinkId
     ensures { result ≡ of_sapi sapi tei }
 {
     LinkId { sapi, tei }

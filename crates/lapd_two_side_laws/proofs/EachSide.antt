@@ -103,7 +103,7 @@ module _ (id : LinkId) (may : Bool) (O : Option Linked → Type 0) (p : What →
 
     -- a request for which this link is meant concerns it
     abbrev Concerns : {M : Type 0} → Rules M → Type 0
-    Concerns {M} rules = (m : M) (other own : LinkId) → rules.meant m other ≡ Some own
+    Concerns {M} rules = (m : M) (other own : LinkId) → rules.link_of_call m other ≡ Some own
         → id_eq id own ≡ true → concerns rules.side id other ≡ true
 
     permits : {M : Type 0} (rules : Rules M) → Concerns rules → (m : M) (asked : Request)

@@ -266,7 +266,7 @@ module _ (Permits : Inputs) (heard : (id : LinkId) (control : Control) (role : R
 -- the link that is meant may take this input
 abbrev pub PermitsMeant : {M : Type 0} → Rules M → Inputs → M → LinkId → Input → List ℕ → Type 0
 PermitsMeant rules Permits m id input octets =
-    (own : LinkId) → rules.meant m id ≡ Some own → Permits own input octets
+    (own : LinkId) → rules.link_of_call m id ≡ Some own → Permits own input octets
 
 -- and so the input of this request
 abbrev pub PermitsRequest : {M : Type 0} → Rules M → Inputs → M → Request → Type 0

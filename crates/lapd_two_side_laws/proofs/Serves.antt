@@ -53,11 +53,11 @@ pub record ServesMeant {M : Type 0} (rules : Rules M) (config : Config) : Type 0
   pub spares : (frame : Fields) → is_unit_to_group frame ≡ false
       → rules.is_for_layer_3 config frame ≡ false
   pub gives : (id own : LinkId) (message : Message) (now : ℕ) (s : SideState M)
-      → rules.meant s.management id ≡ Some own
+      → rules.link_of_call s.management id ≡ Some own
       → rules.requested config (request.Give id message) now s
       ≡ link_of rules.side now own (input.Give message.items) [] s
   pub refuses : (id : LinkId) (message : Message) (now : ℕ) (s : SideState M)
-      (a : Reaction (SideState M)) → rules.meant s.management id ≡ None
+      (a : Reaction (SideState M)) → rules.link_of_call s.management id ≡ None
       → rules.requested config (request.Give id message) now s ≡ Ok a → ⊥
 
 module _ {M : Type 0} (rules : Rules M) (config : Config) (id : LinkId) (low : id.tei < 127)
@@ -290,13 +290,14 @@ module _ {M : Type 0} (rules : Rules M) (config : Config) (id : LinkId) (low : i
 
     -- a message is for the link that is meant
     giving : (other : LinkId) (message : Message) (own : Option LinkId)
-        → rules.meant s.management other ≡ own
+        → rules.link_of_call s.management other ≡ own
         → rules.requested config (request.Give other message) now s ≡ Ok a
         → IsAsked now (accepted_by (behaviour rules config) (request.Give other message) now s) s a
     unfolding link_of
     giving other message (Some own) its is =
         subst (λ (given : List (LinkId × List ℕ)). IsAsked now given s a)
-        (sym (ap (if_granted (or_named other (rules.meant s.management other)) message.items) is
+        (sym (ap (if_granted (or_named other (rules.link_of_call s.management other)) message.items)
+        is
         ∙ ap (λ (o : Option LinkId). (or_named other o, message.items) ∷ []) its))
         (by_link own message.items _ refl
         (sym (meant.gives other own message now s its) ∙ is))
@@ -310,7 +311,7 @@ module _ {M : Type 0} (rules : Rules M) (config : Config) (id : LinkId) (low : i
     pub asked : (asked : Request) → rules.requested config asked now s ≡ Ok a
         → IsAsked now (accepted_by (behaviour rules config) asked now s) s a
     asked (request.Give other message) is =
-        giving other message (rules.meant s.management other) refl is
+        giving other message (rules.link_of_call s.management other) refl is
     asked (request.Establish other) is = other_asked (request.Establish other) tt is
     asked (request.Release other) is = other_asked (request.Release other) tt is
     asked (request.Unit other octets) is = other_asked (request.Unit other octets) tt is

@@ -16,7 +16,7 @@ returns-in-Some c = record {
       c.table.ensures;
   link = subst (λ (o : Option Link). ReturnsLink c.of.result 0 o)
       (sym (ap option_copied c.in-Some.is)
-      ∙ (c.link_meant.ensures ∙ ap (link_meant c.table.result.now) c.meant.ensures))
+      ∙ (c.link_meant.ensures ∙ ap (link_meant c.table.result.now) c.link_of_call.ensures))
       (refl, c.of.ensures);
 }
 
@@ -30,6 +30,6 @@ returns-in-None c = record {
       c.table.ensures;
   link = subst (λ (o : Option Link). ReturnsLink c.nothing.result 11 o)
       (sym (ap option_copied c.in-None.is)
-      ∙ (c.link_meant.ensures ∙ ap (link_meant c.table.result.now) c.meant.ensures))
+      ∙ (c.link_meant.ensures ∙ ap (link_meant c.table.result.now) c.link_of_call.ensures))
       (refl, c.nothing.ensures);
 }

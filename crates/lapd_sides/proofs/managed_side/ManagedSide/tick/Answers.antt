@@ -41,7 +41,7 @@ returns-in-Management-clause-due g c = λ is config s shown.
       links = s.served.links;
       timers = stopped h.expiry.timer s.served.timers;
     } in
-    expired_so _ config c.time_out.new.acts c.args.now s h.expiry _ h.due h.of
-    (c.time_out.ensures config (record s { served = own })
+    expired_so _ config c.expire_timer.new.acts c.args.now s h.expiry _ h.due h.of
+    (c.expire_timer.ensures config (record s { served = own })
     (reserved g.M.Represented.represents side c.args.self.now c.expire_first.new.self config s own
     shown c.expire_first.ensures.discarded h.shown))

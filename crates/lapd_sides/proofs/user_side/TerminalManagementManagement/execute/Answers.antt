@@ -15,21 +15,23 @@ returns-in-Release c =
 pub returns-in-Busy-default-true : goal.returns-in-Busy-default-true
 unfolding user_requested
 returns-in-Busy-default-true c =
-    answers_for ShowUser user_requested c.be_busy.result c.args.side.now c.be_busy.new.self
-    c.be_busy.new.acts c.args.now c.args.request (request.Busy c.in-Busy-default-true.id true)
+    answers_for ShowUser user_requested c.set_own_busy.result c.args.side.now
+    c.set_own_busy.new.self
+    c.set_own_busy.new.acts c.args.now c.args.request (request.Busy c.in-Busy-default-true.id true)
     (c.in-Busy-default-true.is
     ∙ ap (λ (on : Bool). request.Busy c.in-Busy-default-true.id on)
-    c.in-Busy-default-true.field-1-test) c.be_busy.ensures
+    c.in-Busy-default-true.field-1-test) c.set_own_busy.ensures
 
 pub returns-in-Busy-default-false : goal.returns-in-Busy-default-false
 unfolding user_requested
 returns-in-Busy-default-false c =
-    answers_for ShowUser user_requested c.be_busy-in-Busy-default-false.result c.args.side.now
-    c.be_busy-in-Busy-default-false.new.self c.be_busy-in-Busy-default-false.new.acts c.args.now
+    answers_for ShowUser user_requested c.set_own_busy-in-Busy-default-false.result c.args.side.now
+    c.set_own_busy-in-Busy-default-false.new.self c.set_own_busy-in-Busy-default-false.new.acts
+    c.args.now
     c.args.request (request.Busy c.in-Busy-default-false.id false)
     (c.in-Busy-default-false.is
     ∙ ap (λ (on : Bool). request.Busy c.in-Busy-default-false.id on)
-    c.in-Busy-default-false.field-1-test) c.be_busy-in-Busy-default-false.ensures
+    c.in-Busy-default-false.field-1-test) c.set_own_busy-in-Busy-default-false.ensures
 
 pub returns-in-Unit : goal.returns-in-Unit
 unfolding user_requested

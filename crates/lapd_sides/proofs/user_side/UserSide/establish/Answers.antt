@@ -8,11 +8,12 @@ use Rattle.lapd_sides.proofs.user_side.UserSide.establish.Goals as goal
 pub returns-in-Some : goal.returns-in-Some
 unfolding link_of
 returns-in-Some c = answers_as c.act.result _ _ _ _ _ _ (λ config s shown.
-    is_own c.args.self.now config s c.tei.result c.in-Some.tei c.args.now c.args.sapi c.name.result
+    is_own c.args.self.now config s c.tei.result c.in-Some.tei c.args.now c.args.sapi
+    c.link_id.result
     Establish [] (wants config c.args.now c.args.sapi s) shown
-    (record { of = c.tei.ensures; is = c.in-Some.is; named = c.name.ensures })) c.act.ensures
+    (record { of = c.tei.ensures; is = c.in-Some.is; named = c.link_id.ensures })) c.act.ensures
 
 pub returns-in-None : goal.returns-in-None
-returns-in-None c = answers_as c.want.result _ _ _ _ _ _ (λ config s shown.
+returns-in-None c = answers_as c.keep_pending.result _ _ _ _ _ _ (λ config s shown.
     is_none c.args.self.now config s c.tei.result c.args.now c.args.sapi Establish []
-    (wants config c.args.now c.args.sapi s) shown c.tei.ensures c.in-None.is) c.want.ensures
+    (wants config c.args.now c.args.sapi s) shown c.tei.ensures c.in-None.is) c.keep_pending.ensures

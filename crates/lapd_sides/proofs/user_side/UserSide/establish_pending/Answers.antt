@@ -5,7 +5,8 @@ pub returns : goal.returns
 returns c =
     λ config s shown. both_establish c.args.self.now c.establish_if.new.self
     c.establish_if-2.new.self c.nothing-self.result config s c.args.acts.now c.establish_if.new.acts
-    c.establish_if-2.new.acts c.has.result c.has-2.result c.name.result c.name-2.result c.args.now
+    c.establish_if-2.new.acts c.has.result c.has-2.result c.link_id.result c.link_id-2.result
+    c.args.now
     c.args.tei
-    c.nothing-self.ensures c.has.ensures c.has-2.ensures c.name.ensures c.name-2.ensures
+    c.nothing-self.ensures c.has.ensures c.has-2.ensures c.link_id.ensures c.link_id-2.ensures
     c.establish_if.ensures.done c.establish_if-2.ensures.done shown

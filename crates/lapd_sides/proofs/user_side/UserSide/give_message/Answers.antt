@@ -13,13 +13,14 @@ use Rattle.lapd_sides.proofs.user_side.UserSide.give_message.Goals as goal
 pub returns-in-Some : goal.returns-in-Some
 unfolding link_of
 returns-in-Some c = answers_as c.give.result _ _ _ _ _ _ (λ config s shown.
-    is_own c.args.self.now config s c.tei.result c.in-Some.tei c.args.now c.args.sapi c.name.result
+    is_own c.args.self.now config s c.tei.result c.in-Some.tei c.args.now c.args.sapi
+    c.link_id.result
     (Give c.args.message.items) [] (Err (Link NotEstablished)) shown
-    (record { of = c.tei.ensures; is = c.in-Some.is; named = c.name.ensures }))
+    (record { of = c.tei.ensures; is = c.in-Some.is; named = c.link_id.ensures }))
     (link_answers ShowTerminal side.User c.give.result c.args.self.now c.give.new.self
     c.args.acts.now c.give.new.acts (Some c.args.message)
-    (λ at links. in_links c.name.result
-    (link_acts at c.name.result c.args.now (Give c.args.message.items) []) links)
+    (λ at links. in_links c.link_id.result
+    (link_acts at c.link_id.result c.args.now (Give c.args.message.items) []) links)
     c.requires.empty c.give.ensures.ok c.give.ensures.err c.give.ensures.returned
     c.give.ensures.unchanged c.give.ensures.nothing)
 

@@ -20,9 +20,10 @@ returns-in-Ok c = λ config s shown.
     (with_tei_or c.args.now s.management.terminal c.args.sapi (UnitData (length o)) o
     (Err NoLink) s)) c.as_slice.ensures.value
     (granted_as _ config c.send_unit-sent.new.acts _ _
-    (is_own c.args.self.now config s c.tei.result c.in-Some.tei c.args.now c.args.sapi c.name.result
+    (is_own c.args.self.now config s c.tei.result c.in-Some.tei c.args.now c.args.sapi
+    c.link_id.result
     (UnitData (length octets)) octets (Err NoLink) shown
-    (record { of = c.tei.ensures; is = c.in-Some.is; named = c.name.ensures }))
+    (record { of = c.tei.ensures; is = c.in-Some.is; named = c.link_id.ensures }))
     (granted ShowTerminal side.User c.args.self.now c.send_unit-sent.new.self config s
     c.args.acts.now c.send_unit-sent.new.acts _ shown c.requires.empty
     (c.in-Ok.ensures.ok side.User s.served.links shown.served.links)))
@@ -37,8 +38,8 @@ returns-in-Err c =
           c.args.sapi (UnitData (length o)) o (Err NoLink) s ≡ Err c.refused-in-Err.result.kind)
           c.as_slice.ensures.value
           (is_own c.args.self.now config s c.tei.result c.in-Some.tei c.args.now c.args.sapi
-          c.name.result (UnitData (length octets)) octets (Err NoLink) shown
-          (record { of = c.tei.ensures; is = c.in-Some.is; named = c.name.ensures })
+          c.link_id.result (UnitData (length octets)) octets (Err NoLink) shown
+          (record { of = c.tei.ensures; is = c.in-Some.is; named = c.link_id.ensures })
           ∙ ap (among_links s) (c.in-Err.ensures.err side.User s.served.links shown.served.links)
           ∙ ap Err (sym c.refused-in-Err.ensures.kind));
       returned = c.refused-in-Err.ensures.message;

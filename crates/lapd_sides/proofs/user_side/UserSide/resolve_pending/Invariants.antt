@@ -1,6 +1,6 @@
 use Rattle.std.proofs.Common.{◌≡◌, drop}
 use Rattle.lapd_sides.specs.User.{User, pending_after}
-use Rattle.lapd_sides.proofs.user_side.UserSide.settle_pending.Given as goal
+use Rattle.lapd_sides.proofs.user_side.UserSide.resolve_pending.Given as goal
 
 abbrev pub invariant-loop-out : goal.invariant-loop-out
 invariant-loop-out l =

@@ -11,7 +11,7 @@ use Rattle.lapd_sides.specs.Management.{links_with}
 use Rattle.lapd_sides.specs.Shows.{ShowServed}
 use Rattle.lapd_sides.proofs.Calling.{lacks}
 use Rattle.lapd_sides.proofs.Using.{acts_so, outs_of}
-use Rattle.lapd_sides.proofs.user_side.TerminalManagementManagement.hear.Goals as goal
+use Rattle.lapd_sides.proofs.user_side.TerminalManagementManagement.receive_message.Goals as goal
 
 pub returns-in_err-admit : goal.returns-in_err-admit
 returns-in_err-admit c =

@@ -1,6 +1,6 @@
 use Rattle.lapd_tei.specs.declared.terminal.TerminalEvent.TheVariants as event
 use Rattle.lapd_sides.proofs.Using.{acts_so, t202_gets_none}
-use Rattle.lapd_sides.proofs.user_side.TerminalManagementManagement.time_out.Goals as goal
+use Rattle.lapd_sides.proofs.user_side.TerminalManagementManagement.expire_timer.Goals as goal
 
 pub manage-requires-clause-gets_none : goal.manage-requires-clause-gets_none
 manage-requires-clause-gets_none c = t202_gets_none c.next.result

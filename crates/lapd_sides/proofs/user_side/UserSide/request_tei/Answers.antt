@@ -1,6 +1,6 @@
 use Rattle.lapd_tei.specs.declared.terminal.TerminalEvent.TheVariants as event
 use Rattle.lapd_sides.proofs.Using.{acts_so, ask_gets_none}
-use Rattle.lapd_sides.proofs.user_side.UserSide.ask.Goals as goal
+use Rattle.lapd_sides.proofs.user_side.UserSide.request_tei.Goals as goal
 
 pub manage-requires-clause-gets_none : goal.manage-requires-clause-gets_none
 manage-requires-clause-gets_none c = ask_gets_none c.next.result

@@ -10,7 +10,7 @@ use Rattle.lapd_sides.specs.Management.{links_with}
 use Rattle.lapd_sides.specs.Shows.{ShowServed}
 use Rattle.lapd_sides.proofs.Calling.{lacks}
 use Rattle.lapd_sides.proofs.Networking.{assigned_so}
-use Rattle.lapd_sides.proofs.net_side.AssignerManagement.hear.Goals as goal
+use Rattle.lapd_sides.proofs.net_side.AssignerManagement.receive_message.Goals as goal
 
 pub returns-in_err-admit : goal.returns-in_err-admit
 returns-in_err-admit c =

@@ -2,7 +2,7 @@ use Rattle.std.proofs.Common.{true, ap, ◌∙◌}
 use Rattle.lapd_tei.specs.declared.terminal.TerminalEvent.TheVariants as event
 use Rattle.lapd_sides.specs.User.{PendingEstablishments, User, with_kept, with_pending}
 use Rattle.lapd_sides.proofs.Using.{acts_so, want_gets_none, wanted}
-use Rattle.lapd_sides.proofs.user_side.UserSide.want.Goals as goal
+use Rattle.lapd_sides.proofs.user_side.UserSide.keep_pending.Goals as goal
 
 pub manage-requires-clause-gets_none : goal.manage-requires-clause-gets_none
 manage-requires-clause-gets_none c = want_gets_none c.next.result

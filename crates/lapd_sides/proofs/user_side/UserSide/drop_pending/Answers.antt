@@ -5,7 +5,7 @@ use Rattle.lapd_sides_links.specs.Links.{of_sapi}
 use Rattle.lapd_sides_links.specs.declared.primitive.Primitive.TheVariants.{Of}
 use Rattle.lapd_sides_links.specs.declared.primitive.What.TheVariants as what
 use Rattle.lapd_sides.proofs.Using.{forgotten}
-use Rattle.lapd_sides.proofs.user_side.UserSide.forget.Goals as goal
+use Rattle.lapd_sides.proofs.user_side.UserSide.drop_pending.Goals as goal
 
 pub returns : goal.returns
 returns c = λ config s shown.

@@ -5,7 +5,7 @@ use Rattle.lapd_sides.specs.ShowsUser.{ShowUser, UserSide}
 use Rattle.lapd_sides.specs.User.{establishes_pending, gives_up_pending}
 use Rattle.lapd_tei.specs.declared.out.TeiOut.TheVariants as tei
 use Rattle.lapd_sides.proofs.Using.{settles}
-use Rattle.lapd_sides.proofs.user_side.UserSide.settle_pending.Goals as goal
+use Rattle.lapd_sides.proofs.user_side.UserSide.resolve_pending.Goals as goal
 
 pub returns-in-Got : goal.returns-in-Got
 returns-in-Got c = λ config s shown.
