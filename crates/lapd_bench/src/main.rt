@@ -50,7 +50,7 @@ const WINDOW: u32 = 7;
 const OCTETS: usize = 20;
 
 fn main(rt: HostRuntime) -> ExitCode {
-    match do_asked(&rt) {
+    match run_asked(&rt) {
         Ok(done) => status(show(&rt, done)),
         Err(fault) => {
             let _ = eprintln!(rt; "{}", fault.text());
@@ -78,24 +78,24 @@ fn show(rt: &HostRuntime, done: Done) -> io::Result<()> {
 }
 
 /// Executes the command line.
-fn do_asked(rt: &HostRuntime) -> Result<Done, BenchFault> {
+fn run_asked(rt: &HostRuntime) -> Result<Done, BenchFault> {
     match env::args(rt) {
-        Ok(mut words) => do_words(rt.alloc(), &mut words),
+        Ok(mut words) => run_words(rt.alloc(), &mut words),
         Err(_) => Err(BenchFault::CommandLine),
     }
 }
 
 /// Executes the command in these words. The first is the program's name.
-fn do_words(alloc: Global, words: &mut Args) -> Result<Done, BenchFault> {
+fn run_words(alloc: Global, words: &mut Args) -> Result<Done, BenchFault> {
     let _program = words.next();
     match words.next() {
-        Some(word) => do_word(alloc, word.as_str(), words),
+        Some(word) => run_word(alloc, word.as_str(), words),
         None => run(alloc, MESSAGES),
     }
 }
 
 /// Executes the command of this word, with the numbers after it.
-fn do_word(alloc: Global, word: &str, words: &mut Args) -> Result<Done, BenchFault> {
+fn run_word(alloc: Global, word: &str, words: &mut Args) -> Result<Done, BenchFault> {
     let first = next_number(words)?;
     let second = next_number(words)?;
     if words.next().is_some() {
@@ -105,12 +105,12 @@ fn do_word(alloc: Global, word: &str, words: &mut Args) -> Result<Done, BenchFau
         (None, _) => run(alloc, number(word)?),
         (Some(times), None) if word == "pair" => over_pair::pass(alloc, times),
         (Some(_), None) => Err(BenchFault::CommandLine),
-        (Some(count), Some(times)) => do_with_two(alloc, word, count, times),
+        (Some(count), Some(times)) => run_with_two(alloc, word, count, times),
     }
 }
 
 /// Executes the command of this word with two numbers.
-fn do_with_two(alloc: Global, word: &str, count: u32, times: u32) -> Result<Done, BenchFault> {
+fn run_with_two(alloc: Global, word: &str, count: u32, times: u32) -> Result<Done, BenchFault> {
     match word {
         "line" => over_pair::exchange(alloc, count, times),
         "table" => over_table::answer(alloc, count, times),

@@ -22,7 +22,7 @@ pub const UNREADABLE: u8 = 1;
 pub const STANDARD_INPUT: &str = "-";
 
 /// Prints the frames of the capture in this file, or of standard input, and reports how that ended.
-pub fn do_capture(
+pub fn run_capture(
     rt: &HostRuntime,
     file: &str,
     options: DecodeOptions,

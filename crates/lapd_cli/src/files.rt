@@ -1,9 +1,9 @@
 //! The command `decode` for files of any kind.
 
 use crate::capture::{STANDARD_INPUT, UNREADABLE, print_no_file, read_capture};
-use crate::do_script;
 use crate::ending::{COMMAND_LINE, print_memory};
 use crate::picture::{Output, standard_output};
+use crate::run_script;
 use lapd_capture::{FileKind, KIND_OCTETS, ReadFault, kind_of_file, take_front};
 use lapd_cli_console::Escaped;
 use lapd_cli_options::{DecodeOptions, Invocation, PrintedTime};
@@ -19,7 +19,7 @@ decode reads captures (pcap, pcapng), lines such as user 00817f, and with --loos
 /// Prints the frames of these files, one file after the other, and reports how that ended. The
 /// status is that of the first file that failed. One file is printed to this output, several to
 /// standard output.
-pub fn do_files(
+pub fn run_files(
     rt: &HostRuntime,
     chosen: &Invocation<'_>,
     files: &[&str],
@@ -27,14 +27,14 @@ pub fn do_files(
     output: Output<'_>,
 ) -> ExitCode {
     if let [file] = files {
-        return do_file(rt, chosen, file, options, output);
+        return run_file(rt, chosen, file, options, output);
     }
     let mut status = ExitCode::SUCCESS;
     for file in files {
         if !options.json {
             let _ = println!(rt; "==> {} <==", Escaped(file));
         }
-        let ended = do_file(rt, chosen, file, options, standard_output(rt));
+        let ended = run_file(rt, chosen, file, options, standard_output(rt));
         if status == ExitCode::SUCCESS {
             status = ended;
         }
@@ -43,7 +43,7 @@ pub fn do_files(
 }
 
 // Prints the frames of a file, or of standard input.
-fn do_file(
+fn run_file(
     rt: &HostRuntime,
     chosen: &Invocation<'_>,
     file: &str,
@@ -106,7 +106,7 @@ fn read_text<R: Read + Drop>(
     output: Output<'_>,
 ) -> ExitCode {
     match options.time {
-        PrintedTime::Hidden => do_script(rt, chosen, Some(file), source, output),
+        PrintedTime::Hidden => run_script(rt, chosen, Some(file), source, output),
         _ => {
             let file = Escaped(file);
             let _ = eprintln!(rt; "error: --time requires a capture, and {file} is text");

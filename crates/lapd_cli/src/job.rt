@@ -1,7 +1,7 @@
 //! Running the program's job.
 
 use crate::ending::Stop;
-use crate::live::do_live;
+use crate::live::run_live;
 use lapd_cli_answer::answer;
 use lapd_cli_bus::{BusLayout, bus_links};
 use lapd_cli_console::Script;
@@ -58,14 +58,14 @@ pub fn script_of(job: &Job, clock: &Clock<'_>) -> Script {
 ///
 /// `NoConnection` if `loop`, `net` or `user` can't establish its connection, and the command's own
 /// faults.
-pub fn do_job<R: Read, W: Write>(
+pub fn run_job<R: Read, W: Write>(
     rt: &HostRuntime,
     chosen: &Invocation<'_>,
     script: &mut R,
     out: &mut W,
 ) -> Result<(), Stop> {
     let ended = match &chosen.job {
-        Job::Answer(end) => do_answer(rt, script, out, *end),
+        Job::Answer(end) => run_answer(rt, script, out, *end),
         Job::Bus { terminals } => bus(rt.alloc(), script, out, *terminals),
         Job::BusLinks {
             terminals,
@@ -88,20 +88,20 @@ pub fn do_job<R: Read, W: Write>(
             network,
             is_drawn: true,
         } => draw_pair(rt.alloc(), script, out, *user, *network),
-        Job::Loop { user, network } => return do_loop(rt, script, out, *user, *network),
+        Job::Loop { user, network } => return run_loop(rt, script, out, *user, *network),
         Job::Net(interface) => {
-            return do_side(rt, Side::Network, interface, chosen, script, out);
+            return run_side(rt, Side::Network, interface, chosen, script, out);
         }
-        Job::User(interface) => return do_side(rt, Side::User, interface, chosen, script, out),
+        Job::User(interface) => return run_side(rt, Side::User, interface, chosen, script, out),
         Job::Decode(options) => {
-            return do_decode(rt, script, out, *options, chosen.strict);
+            return run_decode(rt, script, out, *options, chosen.strict);
         }
     };
     ended.map_err(Stop::Script)
 }
 
 // Executes the script of a side of this interface, with the chosen clock.
-fn do_side<R: Read, W: Write>(
+fn run_side<R: Read, W: Write>(
     rt: &HostRuntime,
     side: Side,
     interface: &Interface,
@@ -118,9 +118,9 @@ fn do_side<R: Read, W: Write>(
         lines: style_of_lines(chosen.json),
     };
     match (&chosen.clock, side) {
-        (Clock::Real(options), _) => do_live(rt, side, &setup, options, script, out),
-        (Clock::Script, Side::Network) => do_net(rt, script, out, &setup),
-        (Clock::Script, Side::User) => do_user(rt, script, out, &setup),
+        (Clock::Real(options), _) => run_live(rt, side, &setup, options, script, out),
+        (Clock::Script, Side::Network) => run_net(rt, script, out, &setup),
+        (Clock::Script, Side::User) => run_user(rt, script, out, &setup),
     }
 }
 
@@ -145,7 +145,7 @@ fn style_of_lines(json: bool) -> LineStyle {
 }
 
 // Executes the script of this end of a link.
-fn do_answer<R: Read, W: Write>(
+fn run_answer<R: Read, W: Write>(
     rt: &HostRuntime,
     script: &mut R,
     out: &mut W,
@@ -161,7 +161,7 @@ fn do_answer<R: Read, W: Write>(
 }
 
 // Executes a script of lines with octets.
-fn do_decode<R: Read, W: Write>(
+fn run_decode<R: Read, W: Write>(
     rt: &HostRuntime,
     script: &mut R,
     out: &mut W,
@@ -182,11 +182,11 @@ fn do_decode<R: Read, W: Write>(
             keeps_going: options.keep_going,
             follow: follow_of(options),
         };
-        return do_any_lines(rt, script, out, how, strict);
+        return run_any_lines(rt, script, out, how, strict);
     }
     let ended = if options.keep_going {
         decode_good_lines(rt.alloc(), script, out, frames.style, rt.stderr())
-    } else if is_usual(options) {
+    } else if is_default(options) {
         decode(rt.alloc(), script, out)
     } else {
         decode_lines(rt.alloc(), script, out, frames.style)
@@ -195,7 +195,7 @@ fn do_decode<R: Read, W: Write>(
 }
 
 // Executes a script of lines with octets in this form. Of loose lines those of a dump are joined.
-fn do_any_lines<R: Read, W: Write>(
+fn run_any_lines<R: Read, W: Write>(
     rt: &HostRuntime,
     script: &mut R,
     out: &mut W,
@@ -203,17 +203,17 @@ fn do_any_lines<R: Read, W: Write>(
     strict: bool,
 ) -> Result<(), Stop> {
     match how.form {
-        LineForm::Strict => do_lines(rt, script, out, how, strict),
+        LineForm::Strict => run_lines(rt, script, out, how, strict),
         LineForm::Loose(_) => {
             let mut joined = JoinedDumps::new(rt.alloc(), script);
-            do_lines(rt, &mut joined, out, how, strict)
+            run_lines(rt, &mut joined, out, how, strict)
         }
     }
 }
 
 // Executes a script of lines with octets, if they are loose, not all are printed or links are
 // followed.
-fn do_lines<R: Read, W: Write>(
+fn run_lines<R: Read, W: Write>(
     rt: &HostRuntime,
     script: &mut R,
     out: &mut W,
@@ -228,7 +228,7 @@ fn do_lines<R: Read, W: Write>(
 }
 
 // Whether `decode` prints trace lines, as it does without options.
-fn is_usual(options: DecodeOptions) -> bool {
+fn is_default(options: DecodeOptions) -> bool {
     !options.json && !options.names
 }
 
@@ -320,7 +320,7 @@ pub fn follow_of(options: DecodeOptions) -> Option<Follow> {
 }
 
 // Executes the script of two ends whose frames pass through a connection of the process to itself.
-fn do_loop<R: Read, W: Write>(
+fn run_loop<R: Read, W: Write>(
     rt: &HostRuntime,
     script: &mut R,
     out: &mut W,
@@ -335,7 +335,7 @@ fn do_loop<R: Read, W: Write>(
 
 // Executes the script of the network side, whose user side makes the first connection to its
 // address.
-fn do_net<R: Read, W: Write>(
+fn run_net<R: Read, W: Write>(
     rt: &HostRuntime,
     script: &mut R,
     out: &mut W,
@@ -358,7 +358,7 @@ fn do_net<R: Read, W: Write>(
 }
 
 // Executes the script of the user side, which connects to the network side's address.
-fn do_user<R: Read, W: Write>(
+fn run_user<R: Read, W: Write>(
     rt: &HostRuntime,
     script: &mut R,
     out: &mut W,

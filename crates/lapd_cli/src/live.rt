@@ -27,7 +27,7 @@ type Line<'a> = Tapped<Impaired<Connections<'a>>, Taps<'a>>;
 /// # Errors
 ///
 /// `NoTaps`, `NoConnection`, `Unmet`, and the faults of any script.
-pub fn do_live<R: Read, W: Write>(
+pub fn run_live<R: Read, W: Write>(
     rt: &HostRuntime,
     side: Side,
     setup: &SideSetup<'_>,

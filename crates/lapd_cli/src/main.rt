@@ -21,11 +21,11 @@ mod job;
 mod live;
 mod picture;
 
-use capture::do_capture;
+use capture::run_capture;
 use ending::{Ending, Stop, print_ending, print_memory, print_no_invocation, print_words_fault};
-use files::do_files;
+use files::run_files;
 use greeting::Greeting;
-use job::{do_job, script_of};
+use job::{run_job, script_of};
 use lapd_cli_console::{FaultReport, PrintedAnswers, RecentLines, Refusals, Session, Watched};
 use lapd_cli_options::{Clock, DecodeOptions, Invocation, Job, parse_words, words};
 use lapd_cli_script::ScriptFault;
@@ -39,7 +39,7 @@ fn main(rt: HostRuntime) -> ExitCode {
         Err(fault) => return print_words_fault(&rt, fault),
     };
     match parse_words(rt.alloc(), words.as_slice()) {
-        Ok(chosen) => do_chosen(&rt, &for_input(&rt, chosen)),
+        Ok(chosen) => run_chosen(&rt, &for_input(&rt, chosen)),
         Err(unchosen) => print_no_invocation(&rt, &unchosen),
     }
 }
@@ -54,43 +54,43 @@ fn for_input<'a>(rt: &HostRuntime, chosen: Invocation<'a>) -> Invocation<'a> {
 }
 
 // Runs the chosen job. Its output is written to standard output, or to the file of its picture.
-fn do_chosen(rt: &HostRuntime, chosen: &Invocation<'_>) -> ExitCode {
+fn run_chosen(rt: &HostRuntime, chosen: &Invocation<'_>) -> ExitCode {
     match output_of(rt, chosen) {
-        Ok(output) => do_output(rt, chosen, output),
+        Ok(output) => run_output(rt, chosen, output),
         Err(status) => status,
     }
 }
 
 // Runs the chosen job with this output.
-fn do_output(rt: &HostRuntime, chosen: &Invocation<'_>, output: Output<'_>) -> ExitCode {
+fn run_output(rt: &HostRuntime, chosen: &Invocation<'_>, output: Output<'_>) -> ExitCode {
     match &chosen.job {
-        Job::Decode(options) => do_decode(rt, chosen, *options, output),
-        _ => do_lines(rt, chosen, output),
+        Job::Decode(options) => run_decode(rt, chosen, *options, output),
+        _ => run_lines(rt, chosen, output),
     }
 }
 
 // Runs `decode` over its files, its capture or standard input.
-fn do_decode(
+fn run_decode(
     rt: &HostRuntime,
     chosen: &Invocation<'_>,
     options: DecodeOptions,
     output: Output<'_>,
 ) -> ExitCode {
     match (chosen.files.as_slice(), chosen.pcap) {
-        ([], Some(file)) => do_capture(rt, file, options, chosen.strict, output),
-        ([], None) => do_lines(rt, chosen, output),
-        (files, _) => do_files(rt, chosen, files, options, output),
+        ([], Some(file)) => run_capture(rt, file, options, chosen.strict, output),
+        ([], None) => run_lines(rt, chosen, output),
+        (files, _) => run_files(rt, chosen, files, options, output),
     }
 }
 
 // Runs the chosen job over standard input. At a terminal, a bad line is reported and the next one
 // awaited.
-fn do_lines(rt: &HostRuntime, chosen: &Invocation<'_>, output: Output<'_>) -> ExitCode {
+fn run_lines(rt: &HostRuntime, chosen: &Invocation<'_>, output: Output<'_>) -> ExitCode {
     if rt.stdin().is_terminal() && has_forms(chosen) {
         let script = script_of(&chosen.job, &chosen.clock);
         let answers = PrintedAnswers::new(rt.stderr());
         let session = Session::new(rt.alloc(), script, rt.reader(), answers);
-        do_script(
+        run_script(
             rt,
             chosen,
             None,
@@ -98,7 +98,7 @@ fn do_lines(rt: &HostRuntime, chosen: &Invocation<'_>, output: Output<'_>) -> Ex
             output,
         )
     } else {
-        do_script(rt, chosen, None, rt.stdin(), output)
+        run_script(rt, chosen, None, rt.stdin(), output)
     }
 }
 
@@ -113,7 +113,7 @@ fn has_forms(chosen: &Invocation<'_>) -> bool {
 
 /// Runs the chosen job over a script from this reader, and reports how it ended. The reader is
 /// standard input if `file` is `None`.
-pub fn do_script<R: Read + Drop>(
+pub fn run_script<R: Read + Drop>(
     rt: &HostRuntime,
     chosen: &Invocation<'_>,
     file: Option<&str>,
@@ -127,7 +127,7 @@ pub fn do_script<R: Read + Drop>(
     let Ok(mut out) = BufWriter::new(rt.alloc(), watched) else {
         return print_memory(rt);
     };
-    let ended = do_framed(rt, chosen, is_picture, &mut recent, &mut out);
+    let ended = run_framed(rt, chosen, is_picture, &mut recent, &mut out);
     // Text that a failed writer did not accept is dropped.
     let (watched, _left) = out.into_parts();
     let output = watched.fault();
@@ -161,7 +161,7 @@ fn is_loose(job: &Job) -> bool {
 }
 
 // Runs the chosen job, between the beginning and the end of a picture if it draws one.
-fn do_framed<R: Read, W: Write>(
+fn run_framed<R: Read, W: Write>(
     rt: &HostRuntime,
     chosen: &Invocation<'_>,
     is_picture: bool,
@@ -171,7 +171,7 @@ fn do_framed<R: Read, W: Write>(
     if !begin_picture(is_picture, out) {
         return Err(Stop::Script(ScriptFault::Device));
     }
-    let ended = do_job(rt, chosen, script, out);
+    let ended = run_job(rt, chosen, script, out);
     if !end_picture(is_picture, out) && ended.is_ok() {
         return Err(Stop::Script(ScriptFault::Device));
     }

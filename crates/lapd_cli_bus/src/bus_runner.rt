@@ -75,7 +75,7 @@ impl Command for BusRunner {
     fn run<W: Write>(&mut self, line: &[u8], out: &mut W) -> Result<(), LineFault> {
         let line = read_line(self.alloc, line)?;
         self.report.clear();
-        self.obey(line)?;
+        self.execute(line)?;
         out.write_all(self.report.text())?;
         Ok(())
     }
@@ -143,14 +143,14 @@ impl BusRunner {
     /// # Errors
     ///
     /// `Bad` if the line would take the clock past its end, `Memory` if an allocation fails.
-    fn obey(&mut self, line: BusLine) -> Result<(), LineFault> {
+    fn execute(&mut self, line: BusLine) -> Result<(), LineFault> {
         if let BusLine::Tick(ms) = &line {
             let Some(now) = moment_behind(self.now, *ms) else {
                 return Err(LineFault::Bad);
             };
             self.now = now;
         }
-        match self.execute(line) {
+        match self.apply(line) {
             Ok(()) => Ok(()),
             Err(_) => Err(LineFault::Memory),
         }
@@ -161,7 +161,7 @@ impl BusRunner {
     /// # Errors
     ///
     /// `AllocError` if an allocation fails.
-    fn execute(&mut self, line: BusLine) -> Result<(), AllocError> {
+    fn apply(&mut self, line: BusLine) -> Result<(), AllocError> {
         match line {
             BusLine::Take(station) => self.take_alone(station),
             BusLine::Lose(station, place) => self.lose(station, place),

@@ -50,7 +50,7 @@ fn put_form_fault<W: fmt::Write>(
         FormFault::Missing(form, argument) => write!(f, "{form}: {argument} is missing"),
         FormFault::OutOfRange(form, Argument::Hex, word) => put_no_octets(form, word, f),
         FormFault::OutOfRange(form, argument, word) => put_out_of_range(form, *argument, word, f),
-        FormFault::Behind(form, word) => put_behind(form, word, f),
+        FormFault::Behind(form, word) => write_excess(form, word, f),
     }
 }
 
@@ -120,7 +120,7 @@ fn put_no_octets<W: fmt::Write>(
 }
 
 /// Says which word follows a line that is complete without it.
-fn put_behind<W: fmt::Write>(form: &Form, word: &[u8], f: &mut fmt::Formatter<W>) -> fmt::Result {
+fn write_excess<W: fmt::Write>(form: &Form, word: &[u8], f: &mut fmt::Formatter<W>) -> fmt::Result {
     let word = Shown(word);
     write!(f, "{form}: unexpected extra word {word}")
 }

@@ -114,7 +114,7 @@ expires_in_time arrivals until a b io_events caught known prompt =
 
 no_frame_ends : (until : Until) (taken matched : Bool)
     → ended_by until taken matched ≡ Some end_reason.End → ⊥
-no_frame_ends until.End taken matched e = cc
+no_frame_ends until.NoEvent taken matched e = cc
 no_frame_ends until.Frame true matched e = cc
 no_frame_ends until.Frame false matched e = cc
 no_frame_ends until.Matched taken true e = cc

@@ -15,8 +15,8 @@ use Rattle.lapd_cli_live.specs.declared.fault.LiveFault.{LiveFault}
 use Rattle.lapd_cli_live.specs.declared.fault.LiveFault.TheVariants as fault
 use Rattle.lapd_cli_live.specs.declared.input.LiveStop.{LiveStop}
 use Rattle.lapd_cli_live.specs.declared.input.LiveStop.TheVariants.{Script, Unmet}
-use Rattle.lapd_cli_live.specs.declared.obeyed.Obeyed.{Obeyed}
-use Rattle.lapd_cli_live.specs.declared.obeyed.Obeyed.TheVariants as obeyed
+use Rattle.lapd_cli_live.specs.declared.executed.Executed.{Executed}
+use Rattle.lapd_cli_live.specs.declared.executed.Executed.TheVariants as executed
 use Rattle.lapd_cli_wire.specs.declared.outside.Lines.{Lines}
 use Rattle.lapd_cli_wire.specs.declared.outside.Lines.TheVariants.{Ignored}
 use Rattle.lapd_cli_live.specs.declared.service.EndReason.{EndReason}
@@ -24,7 +24,7 @@ use Rattle.lapd_cli_live.specs.declared.service.EndReason.TheVariants as end_rea
 use Rattle.lapd_cli_live.specs.Log.{Chain, HappenBeside, LiveState}
 use Rattle.lapd_cli_live.specs.LineDone.{HasOwnTei, begun, is_expect}
 use Rattle.lapd_cli_live.specs.Typed.{IsFirstLine}
-use Rattle.lapd_cli_live.specs.Sessions.{AreTaken, Awaits, AwaitsInput, AwaitsQuietly, DoesLine, GreetedAndEnds, Greets, AddsMessages, InOrder, LineEnds, LinesEnd, LinesType, ObeysAs, Quits, ReadsPart, RequestEnds, ScriptEnds, ServesOn, Session, SessionEnds, StopsAt, StopsBy, TakesLines, Delivered, Types, TypesLast, TypesOn, stop_of}
+use Rattle.lapd_cli_live.specs.Sessions.{AreTaken, Awaits, AwaitsInput, AwaitsQuietly, DoesLine, GreetedAndEnds, Greets, AddsMessages, InOrder, LineEnds, LinesEnd, LinesType, ExecutesAs, Quits, ReadsPart, RequestEnds, ScriptEnds, ServesOn, Session, SessionEnds, StopsAt, StopsBy, TakesLines, Delivered, Types, TypesLast, TypesOn, stop_of}
 
 -- ---- Waits.
 
@@ -174,7 +174,7 @@ around_stops (fault.Line line_fault.Device) n lines a b = tt
 around_stops (fault.Line line_fault.Memory) n lines a b = tt
 around_stops (fault.Port other) n lines a b = tt
 
-at_after : (why : Obeyed) (number n m : ℕ) (done lines : List (List ℕ)) (a b c : LiveState)
+at_after : (why : Executed) (number n m : ℕ) (done lines : List (List ℕ)) (a b c : LiveState)
     → m ≡ n + length done → InOrder Awaits DoesLine done a b → StopsAt why number m lines b c
     → StopsAt why number n (done ++ lines) a c
 at_after why number n m done lines a b c counted p q = record {
@@ -227,9 +227,10 @@ line_stops (Ok done) stop octets n m a b is stops = absurd is
 line_stops (Err other) stop octets n m a b is stops =
     λ behind. subst (λ (x : LiveStop). StopsBy x n (octets ∷ behind) a b) (sym is) (stops behind)
 
-pub this_stops : (why : Obeyed) (octets : List ℕ) (n number : ℕ) (a b : LiveState) → number ≡ n + 1
+pub this_stops : (why : Executed) (octets : List ℕ) (n number : ℕ) (a b : LiveState) → number ≡ n +
+    1
     → is_passed_over octets ≡ false
-    → ObeysAs why octets Ignored a b → (behind : List (List ℕ))
+    → ExecutesAs why octets Ignored a b → (behind : List (List ℕ))
     → StopsAt why number n (octets ∷ behind) a b
 this_stops why octets n number a b is not stops behind = record {
   before = [];
@@ -509,12 +510,12 @@ reads_none before after (o ∷ part) held consumes none end = absurd (omega arit
 
 -- ---- The outcome of a line.
 
-pub obeyed_as : (why : Obeyed) (octets : List ℕ) (lines : Lines) (own : ℕ) (asked : LiveLine)
+pub executed_as : (why : Executed) (octets : List ℕ) (lines : Lines) (own : ℕ) (asked : LiveLine)
     (a mid b : LiveState) → HasOwnTei a.side own
     → live_request_of_line (side_of a.side) own octets ≡ Some (live_request_of asked)
     → RequestEnds why asked lines (begun (is_expect asked) a) mid
-    → HappenBeside [] mid b → ObeysAs why octets lines a b
-obeyed_as obeyed.Done octets lines own asked a mid b own_is is ends beside = record {
+    → HappenBeside [] mid b → ExecutesAs why octets lines a b
+executed_as executed.Done octets lines own asked a mid b own_is is ends beside = record {
   own = own;
   own_is = own_is;
   asked = asked;
@@ -523,7 +524,7 @@ obeyed_as obeyed.Done octets lines own asked a mid b own_is is ends beside = rec
   does = ends;
   beside = beside;
 }
-obeyed_as obeyed.Unmet octets lines own asked a mid b own_is is ends beside = record {
+executed_as executed.Unmet octets lines own asked a mid b own_is is ends beside = record {
   own = own;
   own_is = own_is;
   asked = asked;
@@ -532,7 +533,7 @@ obeyed_as obeyed.Unmet octets lines own asked a mid b own_is is ends beside = re
   misses = ends;
   beside = beside;
 }
-obeyed_as obeyed.Bad octets lines own asked a mid b own_is is ends beside = absurd ends
+executed_as executed.Bad octets lines own asked a mid b own_is is ends beside = absurd ends
 
 -- the first complete line of the held octets
 pub first_held : {V : Type 0} (items : V → List ℕ) (matched : Option V) (line : V)

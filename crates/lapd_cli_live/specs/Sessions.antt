@@ -14,11 +14,11 @@ use Rattle.lapd_cli_live.specs.declared.fault.LiveFault.{LiveFault}
 use Rattle.lapd_cli_live.specs.declared.fault.LiveFault.TheVariants as fault
 use Rattle.lapd_cli_live.specs.declared.input.LiveStop.{LiveStop}
 use Rattle.lapd_cli_live.specs.declared.input.TypedAction.{TypedAction}
-use Rattle.lapd_cli_live.specs.declared.input.TypedAction.TheVariants.{Pass, Help, Quit, Obey}
+use Rattle.lapd_cli_live.specs.declared.input.TypedAction.TheVariants.{Pass, Help, Quit, Execute}
 use Rattle.lapd_cli_live.specs.declared.live_side.LiveSide.{LiveSide}
 use Rattle.lapd_cli_live.specs.declared.input.LiveStop.TheVariants.{Script, Unmet}
-use Rattle.lapd_cli_live.specs.declared.obeyed.Obeyed.{Obeyed}
-use Rattle.lapd_cli_live.specs.declared.obeyed.Obeyed.TheVariants as obeyed
+use Rattle.lapd_cli_live.specs.declared.executed.Executed.{Executed}
+use Rattle.lapd_cli_live.specs.declared.executed.Executed.TheVariants as executed
 use Rattle.lapd_cli_wire.specs.declared.impairment.Impairment.{Impairment}
 use Rattle.lapd_cli_wire.specs.declared.outside.Lines.{Lines}
 use Rattle.lapd_cli_wire.specs.declared.outside.Lines.TheVariants.{Awaited, Ignored}
@@ -35,11 +35,11 @@ use Rattle.lapd_cli_live.specs.LineDone.{HasOwnTei, LineDone, MissesLine, Obeys,
 -- ---- One line.
 
 -- the outcome of a request: it is executed, or it expects a line that was not printed in time
-abbrev pub RequestEnds : Obeyed → LiveLine → Lines → LiveState → LiveState → Type 0
-RequestEnds obeyed.Done asked lines a b = LineDone asked lines a b
-RequestEnds obeyed.Unmet (line.Expect words ms) lines a b = MissesLine words.now ms lines a b
-RequestEnds obeyed.Unmet asked lines a b = ⊥
-RequestEnds obeyed.Bad asked lines a b = ⊥
+abbrev pub RequestEnds : Executed → LiveLine → Lines → LiveState → LiveState → Type 0
+RequestEnds executed.Done asked lines a b = LineDone asked lines a b
+RequestEnds executed.Unmet (line.Expect words ms) lines a b = MissesLine words.now ms lines a b
+RequestEnds executed.Unmet asked lines a b = ⊥
+RequestEnds executed.Bad asked lines a b = ⊥
 
 -- a line is not a valid request, and nothing happens
 pub record IsBad (octets : List ℕ) (a b : LiveState) : Type 0 where
@@ -55,21 +55,21 @@ pub record IsUnmet (octets : List ℕ) (lines : Lines) (a b : LiveState) : Type 
   pub asked : LiveLine
   pub is : live_request_of_line (side_of a.side) own octets ≡ Some (live_request_of asked)
   pub missed_at : LiveState
-  pub misses : RequestEnds obeyed.Unmet asked lines (begun (is_expect asked) a) missed_at
+  pub misses : RequestEnds executed.Unmet asked lines (begun (is_expect asked) a) missed_at
   pub beside : HappenBeside [] missed_at b
 
 -- the outcome of a line
-abbrev pub ObeysAs : Obeyed → List ℕ → Lines → LiveState → LiveState → Type 0
-ObeysAs obeyed.Done octets lines a b = Obeys octets lines a b
-ObeysAs obeyed.Bad octets lines a b = IsBad octets a b
-ObeysAs obeyed.Unmet octets lines a b = IsUnmet octets lines a b
+abbrev pub ExecutesAs : Executed → List ℕ → Lines → LiveState → LiveState → Type 0
+ExecutesAs executed.Done octets lines a b = Obeys octets lines a b
+ExecutesAs executed.Bad octets lines a b = IsBad octets a b
+ExecutesAs executed.Unmet octets lines a b = IsUnmet octets lines a b
 
 -- ---- Waits for input.
 
 -- the side runs until a line of input can be read, or the connection is closed; the lines that it
 -- prints are kept for a later `expect`
 abbrev pub AwaitsInput : EndReason → LiveState → LiveState → Type 0
-AwaitsInput end_reason a b = IsServed (service None until.End Awaited) end_reason (keeping a) b
+AwaitsInput end_reason a b = IsServed (service None until.NoEvent Awaited) end_reason (keeping a) b
 
 abbrev pub AwaitsOnce : LiveState → LiveState → Type 0
 AwaitsOnce a b = (end_reason : EndReason) × AwaitsInput end_reason a b
@@ -130,7 +130,7 @@ DoesLine octets a b = ObeysUnless (is_passed_over octets) octets a b
 
 -- The lines before one of them are executed. That one has this outcome, and no line after it is
 -- executed. Its number counts from the lines before all of these.
-pub record StopsAt (why : Obeyed) (number count : ℕ) (lines : List (List ℕ))
+pub record StopsAt (why : Executed) (number count : ℕ) (lines : List (List ℕ))
     (a b : LiveState) : Type 0 where
   pub before : List (List ℕ)
   pub stopping : List ℕ
@@ -140,12 +140,12 @@ pub record StopsAt (why : Obeyed) (number count : ℕ) (lines : List (List ℕ))
   pub met : LiveState
   pub done : InOrder Awaits DoesLine before a met
   pub not_passed : is_passed_over stopping ≡ false
-  pub stops : ObeysAs why stopping Ignored met b
+  pub stops : ExecutesAs why stopping Ignored met b
 
 -- a fault of the surroundings may stop it anywhere
 abbrev pub StopsBy : LiveStop → ℕ → List (List ℕ) → LiveState → LiveState → Type 0
-StopsBy Unmet count lines a b = (number : ℕ) × StopsAt obeyed.Unmet number count lines a b
-StopsBy (Script (BadLine number)) count lines a b = StopsAt obeyed.Bad number count lines a b
+StopsBy Unmet count lines a b = (number : ℕ) × StopsAt executed.Unmet number count lines a b
+StopsBy (Script (BadLine number)) count lines a b = StopsAt executed.Bad number count lines a b
 StopsBy (Script Device) count lines a b = ⊤
 StopsBy (Script Memory) count lines a b = ⊤
 StopsBy (Script (Port fault)) count lines a b = ⊤
@@ -202,10 +202,10 @@ abbrev pub AwaitsQuietly : Session → Session → Type 0
 AwaitsQuietly a b = Awaits a.live b.live × (b.reported ≡ a.reported)
 
 -- a bad line is refused
-abbrev pub refusals : Obeyed → List ℕ → List Delivered
-refusals obeyed.Bad octets = Refuses octets ∷ []
-refusals obeyed.Done octets = []
-refusals obeyed.Unmet octets = []
+abbrev pub refusals : Executed → List ℕ → List Delivered
+refusals executed.Bad octets = Refuses octets ∷ []
+refusals executed.Done octets = []
+refusals executed.Unmet octets = []
 
 -- how a line is handled, and whether the session continues
 abbrev pub TypedEnds : TypedAction → List ℕ → Bool → Session → Session → Type 0
@@ -213,8 +213,8 @@ TypedEnds Pass octets goes_on a b = (goes_on ≡ true) × (b ≡ a)
 TypedEnds Help octets goes_on a b = (goes_on ≡ true) × (b.live ≡ a.live)
     × AddsMessages a.reported b.reported (Helps ∷ [])
 TypedEnds Quit octets goes_on a b = (goes_on ≡ false) × (b ≡ a)
-TypedEnds Obey octets goes_on a b = (goes_on ≡ true) × (why : Obeyed)
-    × ObeysAs why octets Awaited a.live b.live × AddsMessages a.reported b.reported
+TypedEnds Execute octets goes_on a b = (goes_on ≡ true) × (why : Executed)
+    × ExecutesAs why octets Awaited a.live b.live × AddsMessages a.reported b.reported
     (refusals why octets)
 
 -- a typed line, which the person's reader tidies first

@@ -54,7 +54,7 @@ pub record RefusesLink (id : LinkId) (a b : LiveState) : Type 0 where
 -- `state SAPI TEI`
 pub record StatesLink (id : LinkId) (a b : LiveState) : Type 0 where
   pub ready : LiveState
-  pub catches_up : CatchesUp until.End a ready
+  pub catches_up : CatchesUp until.NoEvent a ready
   pub prints : PutsLink id ready b ⊎ RefusesLink id ready b
 
 abbrev pub shown_event : Entry → LiveEvent
@@ -63,7 +63,7 @@ shown_event entry = Shows entry
 -- `stats`
 pub record StatesCounts (a b : LiveState) : Type 0 where
   pub ready : LiveState
-  pub catches_up : CatchesUp until.End a ready
+  pub catches_up : CatchesUp until.NoEvent a ready
   pub discarded : ℕ
   pub have : HasDiscarded ready.side discarded
   pub prints : HappenBeside (map shown_event (stats_entries ready.shown.stats discarded)) ready b
@@ -93,7 +93,7 @@ pub record PutsManagement (a b : LiveState) : Type 0 where
 -- management
 pub record StatesAll (a b : LiveState) : Type 0 where
   pub ready : LiveState
-  pub catches_up : CatchesUp until.End a ready
+  pub catches_up : CatchesUp until.NoEvent a ready
   pub table : LinkTable
   pub has : HasTable ready.side table
   pub ids : List LinkId

@@ -29,7 +29,7 @@ use Rattle.lapd_cli_live.specs.Log.{Around, CarriesOut, CarriesOutAll, Chain, Ha
 
 -- a received frame ends it, or a printed line, if the service lasts until then
 abbrev pub ended_by : Until → Bool → Bool → Option EndReason
-ended_by until.End taken matched = None
+ended_by until.NoEvent taken matched = None
 ended_by until.Frame true matched = Some end_reason.Frame
 ended_by until.Frame false matched = None
 ended_by until.Matched taken true = Some end_reason.Matched
@@ -250,7 +250,7 @@ pub record IsServed (service : Service) (end_reason : EndReason) (a b : LiveStat
 -- The side catches up with the clock, and then executes a request.
 pub record IsAsked (request : Request) (a b : LiveState) : Type 0 where
   pub ready : LiveState
-  pub catches_up : CatchesUp until.End a ready
+  pub catches_up : CatchesUp until.NoEvent a ready
   pub executes : IsExecuted request ready b
 
 -- The clock is read, and then a request is executed; nothing is received before.

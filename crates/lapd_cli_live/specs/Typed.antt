@@ -4,7 +4,7 @@ use Rattle.std.specs.Str.{bytes_eq}
 use Rattle.lapd_cli_script.specs.WalkState.{HasNoFeed}
 use Rattle.lapd_cli_script.specs.Script.{is_passed_over}
 use Rattle.lapd_cli_live.specs.declared.input.TypedAction.{TypedAction}
-use Rattle.lapd_cli_live.specs.declared.input.TypedAction.TheVariants.{Pass, Help, Quit, Obey}
+use Rattle.lapd_cli_live.specs.declared.input.TypedAction.TheVariants.{Pass, Help, Quit, Execute}
 
 -- the first complete line is removed with its line feed, and nothing else; or no line is complete,
 -- and nothing is removed
@@ -17,4 +17,4 @@ IsFirstLine before (Some line) after = HasNoFeed line × (before ≡ line ++ 10 
 abbrev pub typed_action_of : List ℕ → TypedAction
 typed_action_of line = if is_passed_over line then Pass else (
     if bytes_eq line (codes "help") then Help else (
-    if bytes_eq line (codes "quit") || bytes_eq line (codes "exit") then Quit else Obey))
+    if bytes_eq line (codes "quit") || bytes_eq line (codes "exit") then Quit else Execute))

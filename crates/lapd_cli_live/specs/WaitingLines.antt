@@ -27,7 +27,7 @@ pub record ServedFor (ms : Option ℕ) (until : Until) (lines : Lines) (end_reas
 -- `run` and `wait`
 pub record Runs (ms : Option ℕ) (lines : Lines) (a b : LiveState) : Type 0 where
   pub why : EndReason
-  pub served : ServedFor ms until.End lines why a b
+  pub served : ServedFor ms until.NoEvent lines why a b
 
 -- `read`: what is printed if no frame was taken
 abbrev pub read_events : EndReason → List LiveEvent

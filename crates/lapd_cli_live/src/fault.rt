@@ -7,7 +7,7 @@ use std::io;
 #[derive(Clone, Copy)]
 pub enum LiveFault {
     /// A reader or the writer failed, or an allocation. Never `Bad`:
-    /// [`LiveSide::obey`](crate::LiveSide::obey) returns `Obeyed::Bad` for a bad line.
+    /// [`LiveSide::execute_line`](crate::LiveSide::execute_line) returns `Executed::Bad` for a bad line.
     Line(LineFault),
     /// The surroundings of the side returned this fault.
     Port(PortFault),

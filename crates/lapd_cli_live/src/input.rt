@@ -6,12 +6,12 @@ ghost use Rattle.lapd_cli_script.specs.declared.script.ScriptFault.TheVariants.{
 ghost use Rattle.lapd_cli_live.specs.declared.input.LiveStop.TheVariants.{Script};
 ghost use Rattle.lapd_cli_live.specs.Log.{Between};
 ghost use Rattle.lapd_cli_live.specs.Sessions.{GreetedAndEnds, Greets, AddsMessages, Helps, LineEnds, LinesEnd, LinesType, ReadsPart, Refuses, ScriptEnds, ServesOn, SessionEnds, Delivered, TypedEnds, Types, TypesLast, session_of, stop_of};
-ghost use Rattle.lapd_cli_live.specs.declared.input.TypedAction.TheVariants.{Obey};
+ghost use Rattle.lapd_cli_live.specs.declared.input.TypedAction.TheVariants.{Execute};
 ghost use Rattle.lapd_cli_live.specs.Typed.{typed_action_of};
 
+use crate::executed::Executed;
 use crate::fault::LiveFault;
 use crate::live_side::LiveSide;
-use crate::obeyed::Obeyed;
 use crate::service::EndReason;
 use crate::typed_lines::TypedLines;
 use lapd_cli_script::{LineFault, ScriptFault, is_passed_over};
@@ -95,7 +95,7 @@ pub(crate) enum TypedAction {
     /// End the session.
     Quit,
     /// Execute it, like a line of a script.
-    Obey,
+    Execute,
 }
 
 /// Runs a side on a script, also while it waits for the next line. It executes each line once and
@@ -174,17 +174,17 @@ fn run_script<R: Read, O: Outside, W: Write>(
         // The script continues even if the connection is closed.
         live.await_input()?;
         if !read_part(script, &mut lines)? {
-            do_script_line(live, lines.last_line(), &mut number)?;
+            run_script_line(live, lines.last_line(), &mut number)?;
             serve_to_end(live, serve_on)?;
             return Ok(());
         }
-        do_script_lines(live, &mut lines, &mut number)?;
+        run_script_lines(live, &mut lines, &mut number)?;
     }
     Err(LiveStop::Script(ScriptFault::Device))
 }
 
 /// Executes the complete lines of a script.
-fn do_script_lines<O: Outside, W: Write>(
+fn run_script_lines<O: Outside, W: Write>(
     live: &mut LiveSide<O, W>,
     lines: &mut TypedLines,
     number: &mut u64,
@@ -196,13 +196,13 @@ fn do_script_lines<O: Outside, W: Write>(
         let Some(line) = lines.next_line()? else {
             return Ok(());
         };
-        do_script_line(live, line.as_slice(), number)?;
+        run_script_line(live, line.as_slice(), number)?;
     }
     Err(LiveStop::Script(ScriptFault::Device))
 }
 
 /// Counts a line of a script, and executes it unless it is skipped.
-fn do_script_line<O: Outside, W: Write>(
+fn run_script_line<O: Outside, W: Write>(
     live: &mut LiveSide<O, W>,
     line: &[u8],
     number: &mut u64,
@@ -217,10 +217,10 @@ fn do_script_line<O: Outside, W: Write>(
     if is_passed_over(line) {
         return Ok(());
     }
-    match live.obey(line, Lines::Ignored)? {
-        Obeyed::Done => Ok(()),
-        Obeyed::Bad => Err(LiveStop::Script(ScriptFault::BadLine(this))),
-        Obeyed::Unmet => Err(LiveStop::Unmet),
+    match live.execute_line(line, Lines::Ignored)? {
+        Executed::Done => Ok(()),
+        Executed::Bad => Err(LiveStop::Script(ScriptFault::BadLine(this))),
+        Executed::Unmet => Err(LiveStop::Unmet),
     }
 }
 
@@ -243,12 +243,12 @@ fn converse<R: Read, P: Console, O: Outside, W: Write>(
             return Ok(());
         }
         if !read_part(lines, &mut typed)? {
-            if !do_last(live, typed.last_line(), console)? {
+            if !run_last(live, typed.last_line(), console)? {
                 return Ok(());
             }
             return serve_to_end(live, serve_on);
         }
-        if !do_typed_lines(live, &mut typed, console)? {
+        if !run_typed_lines(live, &mut typed, console)? {
             return Ok(());
         }
     }
@@ -256,7 +256,7 @@ fn converse<R: Read, P: Console, O: Outside, W: Write>(
 }
 
 /// Executes the complete typed lines. Returns `false` if one of them ends the session.
-fn do_typed_lines<P: Console, O: Outside, W: Write>(
+fn run_typed_lines<P: Console, O: Outside, W: Write>(
     live: &mut LiveSide<O, W>,
     typed: &mut TypedLines,
     console: &mut P,
@@ -270,7 +270,7 @@ fn do_typed_lines<P: Console, O: Outside, W: Write>(
         let Some(line) = typed.next_line()? else {
             return Ok(true);
         };
-        if !do_typed(live, line.as_slice(), console)? {
+        if !run_typed(live, line.as_slice(), console)? {
             return Ok(false);
         }
     }
@@ -278,7 +278,7 @@ fn do_typed_lines<P: Console, O: Outside, W: Write>(
 }
 
 /// Executes the last line, if it lacks its line feed. Returns `false` if it ends the session.
-fn do_last<P: Console, O: Outside, W: Write>(
+fn run_last<P: Console, O: Outside, W: Write>(
     live: &mut LiveSide<O, W>,
     line: &[u8],
     console: &mut P,
@@ -289,12 +289,12 @@ fn do_last<P: Console, O: Outside, W: Write>(
 {
     match line {
         [] => Ok(true),
-        [..] => do_typed(live, line, console),
+        [..] => run_typed(live, line, console),
     }
 }
 
 /// Executes a typed line. Returns `false` if it ends the session.
-fn do_typed<P: Console, O: Outside, W: Write>(
+fn run_typed<P: Console, O: Outside, W: Write>(
     live: &mut LiveSide<O, W>,
     line: &[u8],
     console: &mut P,
@@ -312,7 +312,7 @@ fn do_typed<P: Console, O: Outside, W: Write>(
             Ok(true)
         }
         TypedAction::Quit => Ok(false),
-        TypedAction::Obey => {
+        TypedAction::Execute => {
             obey_typed(live, line, console)?;
             Ok(true)
         }
@@ -330,7 +330,7 @@ pub(crate) fn typed_action(line: &[u8]) -> TypedAction
     } else if line == b"quit".as_slice() || line == b"exit".as_slice() {
         TypedAction::Quit
     } else {
-        TypedAction::Obey
+        TypedAction::Execute
     }
 }
 
@@ -340,16 +340,16 @@ fn obey_typed<P: Console, O: Outside, W: Write>(
     line: &[u8],
     console: &mut P,
 ) -> Result<(), LiveFault>
-    ensures { OnOk result (TypedEnds Obey line.now true
+    ensures { OnOk result (TypedEnds Execute line.now true
         (session_of O.io_events O.impaired_by W.contents P.reported live.old console.old)
         (session_of O.io_events O.impaired_by W.contents P.reported live.new console.new)) }
 {
-    match live.obey(line, Lines::Awaited)? {
-        Obeyed::Bad => {
+    match live.execute_line(line, Lines::Awaited)? {
+        Executed::Bad => {
             console.refuse_line(line);
             Ok(())
         }
-        Obeyed::Done | Obeyed::Unmet => Ok(()),
+        Executed::Done | Executed::Unmet => Ok(()),
     }
 }
 

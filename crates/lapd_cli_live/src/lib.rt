@@ -13,18 +13,19 @@
 //! on purpose.
 #![tactic(auto)]
 
+mod executed;
 mod fault;
 mod input;
 mod laws;
 mod live_lines;
 mod live_side;
-mod obeyed;
 mod printer;
 mod recent_output;
 mod service;
 mod style;
 mod typed_lines;
 
+pub use executed::Executed;
 pub use fault::LiveFault;
 pub use input::{Console, LiveStop, live_script, live_session};
 pub use lapd_cli_side_lines::LineStyle;
@@ -36,7 +37,6 @@ pub use laws::{
     prompt_lines_are_computed,
 };
 pub use live_side::{LiveSide, frames_of_step};
-pub use obeyed::Obeyed;
 pub use printer::Printer;
 pub use service::{EndReason, Service, Until};
 pub use style::Style;

@@ -3,9 +3,9 @@
 ghost use Rattle.std.specs.Prelude.{◌≡◌, IfOk, OnOk};
 ghost use Rattle.lapd_cli_live.specs.LineDone.{is_expect as is_expect_line};
 
+use crate::executed::Executed;
 use crate::fault::LiveFault;
 use crate::live_side::LiveSide;
-use crate::obeyed::Obeyed;
 use crate::service::{EndReason, Service, Until};
 use lapd_cli_live_text::{
     LiveLine, awaited_line, awaited_text, push_link, push_management, read_live_line,
@@ -19,7 +19,7 @@ impl<O: Outside, W: Write> LiveSide<O, W> {
     ghost use Rattle.lapd_cli_live.specs.Log.{Between};
     ghost use Rattle.lapd_cli_live.specs.StateLines.{PutsManagement, PutsState, StateEach, StatesAll, StatesCounts, StatesLink};
     ghost use Rattle.lapd_cli_live.specs.LineDone.{ExpectDone, FindsLine, HasOwnTei, begun, impaired_as};
-    ghost use Rattle.lapd_cli_live.specs.Sessions.{AwaitsInput, ObeysAs, RequestEnds};
+    ghost use Rattle.lapd_cli_live.specs.Sessions.{AwaitsInput, ExecutesAs, RequestEnds};
     ghost use Rattle.lapd_cli_live.specs.WaitingLines.{Expects, Reads, Runs};
 
     /// Executes a line of input, without its line feed, and returns what became of it. If `lines`
@@ -30,23 +30,23 @@ impl<O: Outside, W: Write> LiveSide<O, W> {
     /// # Errors
     ///
     /// `Line(Device)`, `Line(Memory)` and `Port`.
-    pub fn obey(&mut self, line: &[u8], lines: Lines) -> Result<Obeyed, LiveFault>
-        ensures { IfOk result (λ obeyed.
+    pub fn execute_line(&mut self, line: &[u8], lines: Lines) -> Result<Executed, LiveFault>
+        ensures { IfOk result (λ executed.
             Between O.io_events O.impaired_by W.contents self.old self.new
-            (ObeysAs obeyed line.now lines)) }
+            (ExecutesAs executed line.now lines)) }
     {
         let side = self.side.side();
         let own = self.own_tei();
         let line = match read_live_line(self.alloc, side, own, line) {
             Ok(line) => line,
-            Err(LineFault::Bad) => return Ok(Obeyed::Bad),
+            Err(LineFault::Bad) => return Ok(Executed::Bad),
             Err(fault) => return Err(LiveFault::Line(fault)),
         };
         self.begin_line(is_expect(&line));
-        match self.do_line(line, lines) {
-            Ok(obeyed) => {
+        match self.run_line(line, lines) {
+            Ok(executed) => {
                 self.printer.flush()?;
-                Ok(obeyed)
+                Ok(executed)
             }
             Err(fault) => {
                 let _ = self.printer.flush();
@@ -68,17 +68,17 @@ impl<O: Outside, W: Write> LiveSide<O, W> {
 
     /// Executes a request. Returns `Unmet` if an expected line was not printed in time, else
     /// `Done`.
-    fn do_line(&mut self, line: LiveLine<'_>, lines: Lines) -> Result<Obeyed, LiveFault>
-        ensures { IfOk result (λ obeyed.
+    fn run_line(&mut self, line: LiveLine<'_>, lines: Lines) -> Result<Executed, LiveFault>
+        ensures { IfOk result (λ executed.
             Between O.io_events O.impaired_by W.contents self.old self.new
-            (RequestEnds obeyed line.entry lines)) }
+            (RequestEnds executed line.entry lines)) }
     {
         match line {
             LiveLine::Read(ms) => self.read(ms, lines)?,
             LiveLine::Run(ms) => self.run(ms, lines)?,
             LiveLine::Expect(words, ms) => {
                 if !self.expect(words, ms, lines)? {
-                    return Ok(Obeyed::Unmet);
+                    return Ok(Executed::Unmet);
                 }
             }
             LiveLine::State(Some(id)) => self.put_link(&id)?,
@@ -87,7 +87,7 @@ impl<O: Outside, W: Write> LiveSide<O, W> {
             LiveLine::Ask(request) => self.ask(request)?,
             LiveLine::Impair(impairment) => self.impair(impairment),
         }
-        Ok(Obeyed::Done)
+        Ok(Executed::Done)
     }
 
     /// The TEI of the links that a line of the user side names: the terminal's, or the group TEI
@@ -110,7 +110,7 @@ impl<O: Outside, W: Write> LiveSide<O, W> {
         self.printer.retain_unseen();
         self.serve(Service {
             end: None,
-            until: Until::End,
+            until: Until::NoEvent,
             lines: Lines::Awaited,
         })
     }
@@ -123,7 +123,7 @@ impl<O: Outside, W: Write> LiveSide<O, W> {
         let end = self.end_after(ms)?;
         self.serve(Service {
             end,
-            until: Until::End,
+            until: Until::NoEvent,
             lines,
         })?;
         Ok(())

@@ -231,9 +231,10 @@ impl<O: Outside, W: Write> LiveSide<O, W> {
     pub(crate) fn catch_up(&mut self) -> Result<u64, LiveFault>
         ensures moment { IfOk result (λ now. now ≡ self.new.printer.moment) }
         ensures does { OnOk result
-            (Between O.io_events O.impaired_by W.contents self.old self.new (CatchesUp Until.End)) }
+            (Between O.io_events O.impaired_by W.contents self.old self.new
+            (CatchesUp Until.NoEvent)) }
     {
-        self.receive_all(Until::End)?;
+        self.receive_all(Until::NoEvent)?;
         self.expire_due()?;
         Ok(self.printer.moment())
     }
@@ -477,7 +478,7 @@ fn ended_by(until: Until, is_taken: bool, is_matched: bool) -> Option<EndReason>
     match until {
         Until::Frame if is_taken => Some(EndReason::Frame),
         Until::Matched if is_matched => Some(EndReason::Matched),
-        Until::End | Until::Frame | Until::Matched => None,
+        Until::NoEvent | Until::Frame | Until::Matched => None,
     }
 }
 

@@ -16,8 +16,8 @@ pub struct Service {
 /// The event that ends a service before its end, beside a closed connection.
 #[derive(Clone, Copy)]
 pub enum Until {
-    /// Nothing.
-    End,
+    /// No event does.
+    NoEvent,
     /// One frame was received.
     Frame,
     /// An awaited line was printed.

@@ -93,7 +93,7 @@ impl<W: Write, S: Source, K: Sink> Command for SideRunner<W, S, K> {
 
     fn run<V: Write>(&mut self, line: &[u8], _out: &mut V) -> Result<(), LineFault> {
         let asked = read_line(self.alloc, self.side.side(), line)?;
-        self.obey(asked)?;
+        self.execute(asked)?;
         Ok(())
     }
 }
@@ -177,7 +177,7 @@ impl<W: Write, S: Source, K: Sink> SideRunner<W, S, K> {
     }
 
     /// Executes a line's request.
-    fn obey(&mut self, line: SideLine) -> Result<(), LineFault>
+    fn execute(&mut self, line: SideLine) -> Result<(), LineFault>
         ensures side { side_of self.new.side ≡ side_of self.old.side }
         ensures clock { Moves (moment_after self.old.now (request_of line)) result self.new.now }
         ensures does { OnOk result (Between S.rest K.written W.contents self.old self.new

@@ -31,7 +31,7 @@ pub(crate) fn run<R: Read, W: Write, S: Source, K: Sink>(
         LineStyle::Text
     };
     match &chosen.job {
-        Job::Answer(end) => (do_answer(alloc, script, out, *end), port),
+        Job::Answer(end) => (run_answer(alloc, script, out, *end), port),
         Job::Bus { terminals } => (bus(alloc, script, out, *terminals), port),
         Job::BusLinks {
             terminals,
@@ -44,9 +44,9 @@ pub(crate) fn run<R: Read, W: Write, S: Source, K: Sink>(
             };
             (bus_links(alloc, script, out, *terminals, layout), port)
         }
-        Job::Decode(options) => (do_decode(alloc, script, out, *options), port),
+        Job::Decode(options) => (run_decode(alloc, script, out, *options), port),
         Job::Loop { user, network } => loop_over(alloc, script, out, *user, *network, port),
-        Job::Net(interface) => do_net(alloc, (interface, style), script, out, port),
+        Job::Net(interface) => run_net(alloc, (interface, style), script, out, port),
         Job::Pair {
             user,
             network,
@@ -57,11 +57,11 @@ pub(crate) fn run<R: Read, W: Write, S: Source, K: Sink>(
             network,
             is_drawn: true,
         } => (draw_pair(alloc, script, out, *user, *network), port),
-        Job::User(interface) => do_user(alloc, (interface, style), script, out, port),
+        Job::User(interface) => run_user(alloc, (interface, style), script, out, port),
     }
 }
 
-fn do_answer<R: Read, W: Write>(
+fn run_answer<R: Read, W: Write>(
     alloc: Global,
     script: &mut R,
     out: &mut W,
@@ -76,7 +76,7 @@ fn do_answer<R: Read, W: Write>(
     answer(alloc, script, out, side, sapi, tei, params)
 }
 
-fn do_decode<R: Read, W: Write>(
+fn run_decode<R: Read, W: Write>(
     alloc: Global,
     script: &mut R,
     out: &mut W,
@@ -119,7 +119,7 @@ fn do_decode<R: Read, W: Write>(
     Ok(())
 }
 
-fn do_net<R: Read, W: Write, S: Source, K: Sink>(
+fn run_net<R: Read, W: Write, S: Source, K: Sink>(
     alloc: Global,
     (interface, style): (&Interface, LineStyle),
     script: &mut R,
@@ -131,7 +131,7 @@ fn do_net<R: Read, W: Write, S: Source, K: Sink>(
     (ended, port)
 }
 
-fn do_user<R: Read, W: Write, S: Source, K: Sink>(
+fn run_user<R: Read, W: Write, S: Source, K: Sink>(
     alloc: Global,
     (interface, style): (&Interface, LineStyle),
     script: &mut R,

@@ -12,13 +12,13 @@ use Rattle.lapd_cli_values.specs.Options.{IsNumberFrom}
 
 -- the default window (Q.921 5.9.5): 7 at primary rate; at basic access 3 for packet communication,
 -- else 1
-abbrev pub usual_window : Bool → Sapi → List ℕ
-usual_window true sapi = codes "7"
-usual_window false Packet = codes "3"
-usual_window false sapi = codes "1"
+abbrev pub default_window : Bool → Sapi → List ℕ
+default_window true sapi = codes "7"
+default_window false Packet = codes "3"
+default_window false sapi = codes "1"
 
 abbrev pub window_meant : Bool → Sapi → Option (List ℕ) → List ℕ
-window_meant pri sapi None = usual_window pri sapi
+window_meant pri sapi None = default_window pri sapi
 window_meant pri sapi (Some k) = k
 
 -- the parameters with these numbers and this recovery

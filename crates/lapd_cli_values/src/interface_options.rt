@@ -3,7 +3,7 @@
 ghost use Rattle.std.specs.Prelude.{◌≡◌, ◌<◌, [], ◌∷◌, map, option_map, IfOk, MatchResult};
 ghost use Rattle.std.specs.List.{All};
 ghost use Rattle.std.specs.Str.Parse.{digits_value};
-ghost use Rattle.lapd_cli_values.specs.Interfaces.{AreLengths, AreTeis, IsSeed, lengths_written, link_written, seed_meant, teis_meant, teis_written, usual_window, window_meant};
+ghost use Rattle.lapd_cli_values.specs.Interfaces.{AreLengths, AreTeis, IsSeed, lengths_written, link_written, seed_meant, teis_meant, teis_written, default_window, window_meant};
 ghost use Rattle.lapd_cli_values.specs.InterfaceChoices.{IsChosenBy, IsNoneOfItsRange, window_of};
 ghost use Rattle.lapd_cli_values.specs.Numerals.{AreWritten};
 ghost use Rattle.lapd_cli_values.specs.Options.{IsNumberFrom};
@@ -113,13 +113,13 @@ fn window<'a>(pri: bool, sapi: Sapi, k: Option<&'a str>) -> &'a str
 {
     match k {
         Some(k) => k,
-        None => usual_window(pri, sapi),
+        None => default_window(pri, sapi),
     }
 }
 
 // The default window (Q.921 5.9.5).
-fn usual_window(pri: bool, sapi: Sapi) -> &'static str
-    ensures { result.now ≡ usual_window pri sapi }
+fn default_window(pri: bool, sapi: Sapi) -> &'static str
+    ensures { result.now ≡ default_window pri sapi }
 {
     if pri {
         return "7";

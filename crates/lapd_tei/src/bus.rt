@@ -177,7 +177,7 @@ impl Bus {
         ensures memory { IfErr result (λ f. f ≡ fault.Memory) }
         ensures unchanged { OnErr result (self.new ≡ self.old) }
     {
-        match put_behind(&mut self.up, sent(outs).as_slice()) {
+        match append_all(&mut self.up, sent(outs).as_slice()) {
             Ok(()) => Ok(()),
             Err(_) => Err(BusFault::Memory),
         }
@@ -338,7 +338,7 @@ fn broadcasts(
 }
 
 /// Appends these messages, or none of them if an allocation fails.
-fn put_behind(up: &mut VecDeque<TeiMessage>, messages: &[TeiMessage]) -> Result<(), AllocError>
+fn append_all(up: &mut VecDeque<TeiMessage>, messages: &[TeiMessage]) -> Result<(), AllocError>
     ensures done { OnOk result (up.new.items ≡ up.old.items ++ messages.now) }
     ensures unchanged { OnErr result (up.new.items ≡ up.old.items) }
 {

@@ -11,7 +11,7 @@ use Rattle.lapd_cli_live.proofs.live_side.LiveSide.await_input.Goals as goal
 pub returns : goal.returns
 returns g c =
     if_ok c.serve.result _ _
-    (λ end_reason served. subst (λ (s : LiveState). IsServed (service None until.End Awaited)
+    (λ end_reason served. subst (λ (s : LiveState). IsServed (service None until.NoEvent Awaited)
     end_reason s (state_of g.O.Outside.io_events g.O.Outside.impaired_by
     g.W.Write.contents c.serve.new.self))
     (is_keeping g.W.Write.contents c.args.self.now.side _ _ c.args.self.now.printer

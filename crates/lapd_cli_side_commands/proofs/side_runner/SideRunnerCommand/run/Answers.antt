@@ -9,7 +9,7 @@ use Rattle.lapd_cli_side_commands.proofs.side_runner.SideRunnerCommand.run.Goals
 pub returns : goal.returns
 returns g c = λ s come.
     let old = c.args.self.now in
-    let new = c.obey.new.self in
+    let new = c.execute.new.self in
     let asked = c.in_ok-asked.asked in
     line_done s c.args.line.now asked (at_work old.side old.now
     (devices old.style (g.S.Source.rest old.port.source) (g.K.Sink.written old.port.sink)
@@ -18,4 +18,5 @@ returns g c = λ s come.
     (g.K.Sink.written new.port.sink) (g.W.Write.contents new.out))) _ _ come
     (subst (λ (side : Side). request_of_line side c.args.line.now ≡ Some (request_of asked))
     c.side.ensures c.in_ok-asked.ensures)
-    c.in_ok-obey.ensures.clock c.in_ok-obey.ensures.side c.in_ok-obey.ensures.does (Appends-nil _)
+    c.in_ok-execute.ensures.clock c.in_ok-execute.ensures.side c.in_ok-execute.ensures.does
+    (Appends-nil _)

@@ -1,6 +1,6 @@
 /// The outcome of a line of a side.
 #[derive(Clone, Copy, PartialEq, Eq)]
-pub enum Obeyed {
+pub enum Executed {
     /// It was executed.
     Done,
     /// The side has no such line; nothing was executed.

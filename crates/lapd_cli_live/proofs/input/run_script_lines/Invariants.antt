@@ -1,6 +1,6 @@
 use Rattle.lapd_cli_live.specs.Log.{state_of}
 use Rattle.lapd_cli_live.specs.Sessions.{Awaits, DoesLine, TakesLines}
-use Rattle.lapd_cli_live.proofs.input.do_script_lines.Given as goal
+use Rattle.lapd_cli_live.proofs.input.run_script_lines.Given as goal
 
 abbrev pub invariant-loop-line : goal.invariant-loop-line
 invariant-loop-line g l =

@@ -1,6 +1,6 @@
 use Rattle.std.proofs.Common.{ℕ}
 use Rattle.lapd_cli_live.specs.Sessions.{AwaitsQuietly, TakesLines, TypesOn, session_of}
-use Rattle.lapd_cli_live.proofs.input.do_typed_lines.Given as goal
+use Rattle.lapd_cli_live.proofs.input.run_typed_lines.Given as goal
 
 abbrev pub invariant-loop-line : goal.invariant-loop-line
 invariant-loop-line g l =

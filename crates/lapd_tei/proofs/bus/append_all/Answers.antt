@@ -1,6 +1,6 @@
 use Rattle.std.proofs.Common.{arith}
 use Rattle.std.proofs.lemmas.Grind.{common_steps}
-use Rattle.lapd_tei.proofs.bus.put_behind.Goals as goal
+use Rattle.lapd_tei.proofs.bus.append_all.Goals as goal
 
 pub loop-message-preserved : goal.loop-message-preserved
 loop-message-preserved c = grind (arith, common_steps)

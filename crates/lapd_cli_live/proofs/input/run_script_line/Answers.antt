@@ -1,30 +1,30 @@
 use Rattle.std.proofs.Common.{sym, subst, ◌∙◌, arith}
 use Rattle.lapd_cli_live.specs.Log.{state_of}
-use Rattle.lapd_cli_live.specs.Sessions.{ObeysAs}
-use Rattle.lapd_cli_live.specs.declared.obeyed.Obeyed.{Obeyed}
-use Rattle.lapd_cli_live.specs.declared.obeyed.Obeyed.TheVariants as obeyed
+use Rattle.lapd_cli_live.specs.Sessions.{ExecutesAs}
+use Rattle.lapd_cli_live.specs.declared.executed.Executed.{Executed}
+use Rattle.lapd_cli_live.specs.declared.executed.Executed.TheVariants as executed
 use Rattle.lapd_cli_wire.specs.declared.outside.Lines.TheVariants.{Ignored}
 use Rattle.lapd_cli_live.proofs.Sessions.{this_stops}
-use Rattle.lapd_cli_live.proofs.input.do_script_line.Goals as goal
+use Rattle.lapd_cli_live.proofs.input.run_script_line.Goals as goal
 
 pub returns-in-Bad : goal.returns-in-Bad
 returns-in-Bad g c =
-    this_stops obeyed.Bad c.args.line.now c.args.number.now c.in-Some.this _ _ (omega arith)
+    this_stops executed.Bad c.args.line.now c.args.number.now c.in-Some.this _ _ (omega arith)
     (sym c.is_passed_over.ensures ∙ c.if-is_passed_over.false)
-    (subst (λ (x : Obeyed). ObeysAs x c.args.line.now Ignored
+    (subst (λ (x : Executed). ExecutesAs x c.args.line.now Ignored
     (state_of g.O.Outside.io_events g.O.Outside.impaired_by g.W.Write.contents
     c.args.live.now)
     (state_of g.O.Outside.io_events g.O.Outside.impaired_by g.W.Write.contents
-    c.obey.new.self)) c.in-Bad.is c.in_ok-obey.ensures)
+    c.execute_line.new.self)) c.in-Bad.is c.in_ok-execute_line.ensures)
 
 pub returns-in-Unmet : goal.returns-in-Unmet
 returns-in-Unmet g c = λ behind. (
   c.in-Some.this,
-  this_stops obeyed.Unmet c.args.line.now c.args.number.now c.in-Some.this _ _ (omega arith)
+  this_stops executed.Unmet c.args.line.now c.args.number.now c.in-Some.this _ _ (omega arith)
       (sym c.is_passed_over.ensures ∙ c.if-is_passed_over.false)
-      (subst (λ (x : Obeyed). ObeysAs x c.args.line.now Ignored
+      (subst (λ (x : Executed). ExecutesAs x c.args.line.now Ignored
       (state_of g.O.Outside.io_events g.O.Outside.impaired_by g.W.Write.contents
       c.args.live.now)
       (state_of g.O.Outside.io_events g.O.Outside.impaired_by g.W.Write.contents
-      c.obey.new.self)) c.in-Unmet.is c.in_ok-obey.ensures) behind,
+      c.execute_line.new.self)) c.in-Unmet.is c.in_ok-execute_line.ensures) behind,
 )
