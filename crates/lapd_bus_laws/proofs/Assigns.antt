@@ -43,7 +43,7 @@ use Rattle.lapd_two_side_laws.specs.Owed.{PassesBy}
 use Rattle.lapd_two_side_laws.specs.Premises.{is_assignment, is_removal}
 use Rattle.lapd_side_events.specs.SideView.{SideView, SideEvent, reaction}
 use Rattle.lapd_two_side_laws.proofs.LinkOps.{ArePlain, IsLinkOp, none_of_both, op_acts, op_expires}
-use Rattle.lapd_two_side_laws.proofs.Plain.{plain_no_assignment, plain_removals}
+use Rattle.lapd_two_side_laws.proofs.ReportsNoTei.{plain_no_assignment, plain_removals}
 use Rattle.lapd_two_side_laws.proofs.Reactions.{AnyInput, AnyRequest, HoldsOfEvents, HoldsOfLinks, Law, each_event, each_request, reacts}
 use Rattle.lapd_two_side_laws.proofs.Requests.{network_asked, sent_to_group}
 use Rattle.lapd_two_side_laws.proofs.HeldTeis.{GivesFree, gives_free}

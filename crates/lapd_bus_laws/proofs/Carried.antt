@@ -205,12 +205,12 @@ HasLast p q [] = ⊥
 HasLast p q (m ∷ ms) = HasLast p q ms ⊎ ((p m ≡ true) × (list_any q ms ≡ false))
 
 -- no message passes
-abbrev pub never : TeiMessage → Bool
-never m = false
+abbrev pub passes_none : TeiMessage → Bool
+passes_none m = false
 
-pub none_never : (ms : List TeiMessage) → list_any never ms ≡ false
-none_never [] = refl
-none_never (m ∷ ms) = none_never ms
+pub none_passes : (ms : List TeiMessage) → list_any passes_none ms ≡ false
+none_passes [] = refl
+none_passes (m ∷ ms) = none_passes ms
 
 module _ (p q : TeiMessage → Bool) where
   pub last_any : (ms : List TeiMessage) → HasLast p q ms → list_any p ms ≡ true

@@ -23,7 +23,7 @@ use Rattle.lapd_bus_laws.specs.Holdings.{AssignsFree, IsOwnReference, RequestsBy
 use Rattle.lapd_bus_laws.specs.Links.{Throughout, IsTimelyFor, AssignsOthers}
 use Rattle.lapd_bus_laws.proofs.Lists.{both_so, map_back, any_at, any_other, either_some}
 use Rattle.lapd_side_events.proofs.Indices.{apart_index}
-use Rattle.lapd_bus_laws.proofs.Sole.{has_not, has_so}
+use Rattle.lapd_bus_laws.proofs.PremisesOfInterface.{has_not, has_so}
 
 not_so : (a : Bool) → not a ≡ true → a ≡ false
 not_so true h = cc

@@ -20,7 +20,7 @@ use Rattle.lapd_side_events.specs.Bus.{OverhearsNothing, reached_by}
 use Rattle.lapd_bus_laws.proofs.Assigns.{AssignsOne}
 use Rattle.lapd_bus_laws.proofs.Lists.{both_so, either_some, some_first, some_second, not_both, any_weaker, any_dropped, any_removed}
 use Rattle.lapd_bus_laws.proofs.Obtains.{FirstAnswers, TakesAnswer, event_obtains}
-use Rattle.lapd_bus_laws.proofs.Sole.{has_so}
+use Rattle.lapd_bus_laws.proofs.PremisesOfInterface.{has_so}
 
 -- ---- Tests.
 
@@ -71,7 +71,7 @@ module _ (c : Configs) (event : SideEvent) (t : SideView User) (ok : OverhearsNo
   -- the first octets on the line are such an assignment
   answer_claims : (tei : ℕ) (line : List (List ℕ)) → FirstAnswers t.now line tei
       → list_any (is_offer tei t.now.management.terminal) (filter_map assignment_in line) ≡ true
-  answer_claims tei [] never = absurd never
+  answer_claims tei [] impossible = absurd impossible
   answer_claims tei (octets ∷ rest) answer = ap (λ (o : Option Assignment).
       list_any (is_offer tei t.now.management.terminal)
       (cons_option o (filter_map assignment_in rest)))
@@ -86,10 +86,10 @@ module _ (c : Configs) (event : SideEvent) (t : SideView User) (ok : OverhearsNo
   takes_claimed : (tei : ℕ) (e : SideEvent) → TakesAnswer e t tei → Claims tei t
   takes_claimed tei (Take now) answer = some_second (holds tei t) _
       (answer_claims tei t.incoming answer)
-  takes_claimed tei (Lose at) never = absurd never
-  takes_claimed tei (Expire timer of now) never = absurd never
-  takes_claimed tei (Ask request now) never = absurd never
-  takes_claimed tei (Overhear octets now) never = absurd never
+  takes_claimed tei (Lose at) impossible = absurd impossible
+  takes_claimed tei (Expire timer of now) impossible = absurd impossible
+  takes_claimed tei (Ask request now) impossible = absurd impossible
+  takes_claimed tei (Overhear octets now) impossible = absurd impossible
 
   -- a TEI that is obtained was claimed
   pub obtains_claimed : (tei : ℕ) → list_any (is_assignment tei)

@@ -21,7 +21,7 @@ use Rattle.lapd_bus_laws.proofs.Lists.{either_some, some_first, some_second, not
 use Rattle.lapd_side_events.proofs.Indices.{equal_index}
 use Rattle.lapd_bus_laws.proofs.Obtains.{event_obtains}
 use Rattle.lapd_bus_laws.proofs.Single.{no_management}
-use Rattle.lapd_bus_laws.proofs.Sole.{has_so}
+use Rattle.lapd_bus_laws.proofs.PremisesOfInterface.{has_so}
 
 -- ---- Who has a TEI in use.
 

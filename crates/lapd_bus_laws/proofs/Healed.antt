@@ -29,21 +29,21 @@ use Rattle.lapd_bus_laws.specs.Holdings.{IsOfBus, JoinsWithFree}
 use Rattle.lapd_bus_laws.specs.Links.{Throughout}
 use Rattle.lapd_bus_laws.proofs.Assigning.{PassesAssigner, StepsAssigner, IsRequested, StepsByMessage, StepsByFirst, StepsByEvent, event_steps}
 use Rattle.lapd_bus_laws.proofs.Assigns.{AssignsAtMostOne, event_assigns}
-use Rattle.lapd_bus_laws.proofs.Carried.{HasLast, never, none_never, last_any, last_left, about_names, assigned_on}
+use Rattle.lapd_bus_laws.proofs.Carried.{HasLast, passes_none, none_passes, last_any, last_left, about_names, assigned_on}
 use Rattle.lapd_bus_laws.proofs.CheckRows.{AssignsNone, step_assigns_once, heard_row, RequestedRow, requested_check_row, requested_removal_row, ExpiredRow, expired_row, begins_row}
 use Rattle.lapd_bus_laws.proofs.Lists.{both_so, Each, Others, each_set, each_map, others_set, others_map, any_at, any_other, any_weaker, either_some, some_first, not_both}
 use Rattle.lapd_side_events.proofs.Indices.{equal_index, apart_index}
 use Rattle.lapd_bus_laws.proofs.Single.{no_management}
-use Rattle.lapd_bus_laws.proofs.Sole.{has_so}
+use Rattle.lapd_bus_laws.proofs.PremisesOfInterface.{has_so}
 use Rattle.lapd_bus_laws.proofs.Settled.{Carries, IsRequest, IsResponse, IsRemoval, IsAssigned, IsAnswer, IsNotTaken, Settles, Leaves, Obeys, settles_after, not_taken_after, leaves_after, obeys_after, settles_joined, not_taken_joined, leaves_joined, obeys_joined, not_taken_reached, settles_reached, leaves_reached, obeys_reached, settles_by_request, leaves_by_removals, obeys_by_assignment}
 
 -- ---- Tests.
 
 any_last : (p : TeiMessage → Bool) (ms : List TeiMessage) → list_any p ms ≡ true
-    → HasLast p never ms
+    → HasLast p passes_none ms
 any_last p [] h = cc
 any_last p (m ∷ ms) h = elim (either_some (p m) (list_any p ms) h) [
-  | inl it ↦ inr (it, none_never ms)
+  | inl it ↦ inr (it, none_passes ms)
   | inr rest ↦ inl (any_last p ms rest)
 ]
 
@@ -337,10 +337,10 @@ module _ (c : Configs) (tei : ℕ) (low : tei < 127) where
 
     lost_so : (at : ℕ) → LosesNoMessage tei side.User (Lose at) t.outgoing
         → KeepsResponse (Lose at) t.outgoing
-    lost_so at loses sent = elim (last_left (IsResponse tei) never side.User tei
+    lost_so at loses sent = elim (last_left (IsResponse tei) passes_none side.User tei
         (about_names kind.CheckResponse tei) (Lose at) t.outgoing loses
         (any_last (IsResponse tei) (messages_from t) sent)) [
-          | inl still ↦ last_any (IsResponse tei) never _ still
+          | inl still ↦ last_any (IsResponse tei) passes_none _ still
           | inr taken ↦ absurd taken
         ]
 

@@ -18,7 +18,7 @@ use Rattle.lapd_bus_laws.specs.Holdings.{AreApart}
 use Rattle.lapd_bus_laws.proofs.Checks.{where_there, there_so, of_bus, of_bus_so, joins_with_free, joins_with_free_so}
 use Rattle.lapd_bus_laws.proofs.Lists.{both_so, Unique, any_at, not_both, any_other}
 use Rattle.lapd_side_events.proofs.Indices.{equal_index, apart_index}
-use Rattle.lapd_bus_laws.proofs.Sole.{has_not}
+use Rattle.lapd_bus_laws.proofs.PremisesOfInterface.{has_not}
 
 not_so : (a : Bool) → not a ≡ true → a ≡ false
 not_so true h = cc

@@ -26,7 +26,7 @@ use Rattle.lapd_sides.specs.SideState.{takes}
 use Rattle.lapd_sides.specs.User.{User, user_rules, next_reference, pending_after, terminal_acts}
 use Rattle.lapd_side_events.specs.Interface.{user_behaviour}
 use Rattle.lapd_side_events.specs.SideView.{takes_first}
-use Rattle.lapd_two_side_laws.proofs.Plain.{pending_aside}
+use Rattle.lapd_two_side_laws.proofs.ReportsNoTei.{pending_aside}
 use Rattle.lapd_two_side_laws.proofs.Requests.{stepped_by}
 use Rattle.lapd_bus_laws.specs.Healing.{message_in, is_about}
 use Rattle.lapd_bus_laws.proofs.Carried.{permitted, sent_messages, receives_message, FirstIsLast}

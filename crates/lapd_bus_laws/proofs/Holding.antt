@@ -28,13 +28,13 @@ use Rattle.lapd_bus_laws.specs.Assignments.{Assignment, assignment_in, assignmen
 use Rattle.lapd_side_events.specs.Bus.{Bus, BusEvent, OfTerminal, OfNetwork, Join, Restart, NewTerminal, KeepsTerminal, connected, new_bus, OverhearsNothing, recorded_anew, from_now, reached_by, left_of, on_line_of, terminal_does, network_does, terminal_joins, bus_step, after_events, interface_of, moves_along}
 use Rattle.lapd_bus_laws.specs.Holdings.{RequestsUnanswered, KeepsTeisApart, IsReached, AssignsTei, Assigns, IsOnlyClaimant, IsClearToNetwork, LeavesAlone, KeepsHolding}
 use Rattle.lapd_bus_laws.specs.Links.{IsAside, IsNewHere, Throughout, IsTimelyFor, IsNotAssigned, AssignsOthers, ObtainsOnce, IsSole, IsNobodyElses}
-use Rattle.lapd_bus_laws.proofs.Apart.{kept_apart}
+use Rattle.lapd_bus_laws.proofs.TerminalsApart.{kept_apart}
 use Rattle.lapd_bus_laws.proofs.Assigns.{HasNoManagementLink, AssignsOne, AssignsAtMostOne, event_assigns}
 use Rattle.lapd_bus_laws.proofs.Claims.{any_left, same_tei, claims_before, obtains_claimed, reached_by_none, reached_by_one, reached_without, reached_by_assignment}
 use Rattle.lapd_bus_laws.proofs.Lists.{Each, Others, AtMostOne, each_set, each_map, others_set, others_map, map_back, any_at, one_more, one_dropped, one_removed, either_some, some_first, not_both, false_by}
 use Rattle.lapd_bus_laws.proofs.Obtains.{TakesAnswer, event_obtains}
 use Rattle.lapd_bus_laws.proofs.Single.{fixed_of, no_management, KeepsApart, event_keeps}
-use Rattle.lapd_bus_laws.proofs.Sole.{has_so, has_not, safe_here, nobody_elses}
+use Rattle.lapd_bus_laws.proofs.PremisesOfInterface.{has_so, has_not, safe_here, nobody_elses}
 use Rattle.lapd_two_side_laws.proofs.Managed.{neither}
 
 -- ---- A terminal takes the assignment once.
@@ -68,7 +68,7 @@ taken t (Take now) tei answer = first t.incoming refl answer
   where
     first : (line : List (List ℕ)) → t.incoming ≡ line → TakesAnswer (Take now)
         (record t { incoming = line }) tei → Taken t (Take now) tei
-    first [] is never = absurd never
+    first [] is impossible = absurd impossible
     first (octets ∷ rest) is a =
         let x : Assignment = record { reference = a.reference; tei = tei } in
         let line : assignments t ≡ x ∷ filter_map assignment_in rest =
@@ -83,10 +83,10 @@ taken t (Take now) tei answer = first t.incoming refl answer
               list_any (is_of_tei tei) (filter_map assignment_in (left (Take now) l))) is
               ∙ (subst (AtMostOne (is_of_tei tei)) line one).0 (same_tei tei);
         }
-taken t (Lose at) tei never = absurd never
-taken t (Expire timer of now) tei never = absurd never
-taken t (Ask request now) tei never = absurd never
-taken t (Overhear octets now) tei never = absurd never
+taken t (Lose at) tei impossible = absurd impossible
+taken t (Expire timer of now) tei impossible = absurd impossible
+taken t (Ask request now) tei impossible = absurd impossible
+taken t (Overhear octets now) tei impossible = absurd impossible
 
 owner_awaits_nothing : (phase : Phase) (n ri : ℕ) → Owns phase n → awaited phase ≡ Some ri → ⊥
 owner_awaits_nothing Unassigned n ri own is = absurd own
@@ -503,9 +503,9 @@ assigned_now c id i b (OfNetwork j event) h is (t, at, given) =
       offered = all_offered c id i b j event t is.of_bus at h free given;
       network = network_is_new c id i b j event t is.of_bus at h free given;
     }) apart
-assigned_now c id i b (OfTerminal j event) h is never = absurd never
-assigned_now c id i b (Join j new) h is never = absurd never
-assigned_now c id i b (Restart known) h is never = absurd never
+assigned_now c id i b (OfTerminal j event) h is impossible = absurd impossible
+assigned_now c id i b (Join j new) h is impossible = absurd impossible
+assigned_now c id i b (Restart known) h is impossible = absurd impossible
 
 -- ---- The laws.
 

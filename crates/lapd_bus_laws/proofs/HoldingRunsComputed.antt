@@ -20,7 +20,7 @@ use Rattle.lapd_bus_laws.specs.HoldingRuns.{IsReceivedByTerminal, IsReceivedByNe
 use Rattle.lapd_bus_laws.specs.Holdings.{RequestsByItsOwn, KeepsTeisApart, IsReached, Assigns, IsOnlyClaimant, LeavesAlone, KeepsHolding}
 use Rattle.lapd_bus_laws.specs.Links.{Throughout, IsTimelyFor, AssignsOthers, IsNobodyElses}
 use Rattle.lapd_bus_laws.specs.Runs.{two_terminals, waiting_terminal, other_random}
-use Rattle.lapd_bus_laws.proofs.Apart.{new_are_apart}
+use Rattle.lapd_bus_laws.proofs.TerminalsApart.{new_are_apart}
 use Rattle.lapd_bus_laws.proofs.Checks.{throughout_by, leaves_alone, leaves_alone_so, timely_for, timely_for_so, assigns_others, assigns_others_so, requests_by_its_own, requests_by_its_own_so, keeps_teis_apart, keeps_teis_apart_so, keeps_holding, keeps_holding_so, no_fixed_is_single, assigns_now_so, only_claimant_so}
 use Rattle.lapd_bus_laws.proofs.Lists.{either_some}
 use Rattle.lapd_sides.specs.Worked as sides

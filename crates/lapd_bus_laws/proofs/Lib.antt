@@ -3,7 +3,7 @@ pub mod Obtains
 pub mod Silent
 pub mod Overheard
 pub mod Followed
-pub mod Sole
+pub mod PremisesOfInterface
 pub mod Messages
 pub mod Assigns
 pub mod Claims
@@ -15,7 +15,7 @@ pub mod Assigning
 pub mod CheckRows
 pub mod Settled
 pub mod Healed
-pub mod Apart
+pub mod TerminalsApart
 pub mod Holding
 pub mod Checks
 pub mod RunsComputed

@@ -44,7 +44,7 @@ use Rattle.lapd_two_side_laws.proofs.LinkParts.{any_more}
 use Rattle.lapd_side_events.specs.Bus.{OverhearsNothing}
 use Rattle.lapd_bus_laws.specs.Assignments.{assignment_by, assignment_of, assignment_in_frame, assignment_in, awaited}
 use Rattle.lapd_two_side_laws.proofs.LinkOps.{ArePlain, IsLinkOp, op_expires}
-use Rattle.lapd_two_side_laws.proofs.Plain.{IsAside, aside_links, aside_op, pending_aside, plain_no_assignment, plain_no_removal, plain_removals}
+use Rattle.lapd_two_side_laws.proofs.ReportsNoTei.{IsAside, aside_links, aside_op, pending_aside, plain_no_assignment, plain_no_removal, plain_removals}
 use Rattle.lapd_two_side_laws.proofs.Reactions.{AnyInput, AnyRequest, HoldsOfLinks, Law, any_frame, each_request, faulty, frame_data}
 use Rattle.lapd_two_side_laws.proofs.Requests.{by_events, stepped_by, user_asked}
 

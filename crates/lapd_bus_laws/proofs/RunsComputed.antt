@@ -14,7 +14,7 @@ use Rattle.lapd_side_events.specs.Bus.{bus_step, from_now, after_events}
 use Rattle.lapd_bus_laws.specs.Holdings.{AssignsFree, RequestsByItsOwn, JoinsWithFree, IsOfBus, KeepsTeisApart, IsReached, Assigns, IsOnlyClaimant, IsClear, KeepsHolding}
 use Rattle.lapd_bus_laws.specs.Links.{Throughout}
 use Rattle.lapd_bus_laws.specs.Runs.{two_fixed, fixed_call, fixed_talks, requested_bus, from_assignment, KeepsAllButAssignment, KeepsAllButReference, KeepsAllButJoining, second_call, two_terminals, both_request, assigns_first, talking, moved, assigned_while_held, assigned_in_transit, twins, same_reference, answered_before, joins_with_held, same_fixed, waiting_terminal, other_random}
-use Rattle.lapd_bus_laws.proofs.Apart.{new_are_apart}
+use Rattle.lapd_bus_laws.proofs.TerminalsApart.{new_are_apart}
 use Rattle.lapd_bus_laws.proofs.Checks.{throughout_by, of_bus, of_bus_so, assigns_free, assigns_free_so, requests_by_its_own, requests_by_its_own_so, joins_with_free, joins_with_free_so, keeps_teis_apart, keeps_teis_apart_so, keeps_holding, keeps_holding_so, no_fixed_is_single, both_hold_so, assigns_now_so, only_claimant_so, is_clear_so}
 use Rattle.lapd_sides.specs.Worked as sides
 use Rattle.lapd_two_side_laws.proofs.ComputedEvents.{computed_events}

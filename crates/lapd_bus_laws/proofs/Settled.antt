@@ -27,7 +27,7 @@ use Rattle.lapd_bus_laws.proofs.Freeing.{taken_before}
 use Rattle.lapd_bus_laws.proofs.Heard.{Received, first_taken, sent_on, takes_assignment, takes_removal, takes_request}
 use Rattle.lapd_bus_laws.proofs.Lists.{some_first, not_both, false_by}
 use Rattle.lapd_bus_laws.proofs.Obtains.{FirstAnswers, TakesAnswer, event_obtains}
-use Rattle.lapd_bus_laws.proofs.Sole.{has_so}
+use Rattle.lapd_bus_laws.proofs.PremisesOfInterface.{has_so}
 use Rattle.lapd_bus_laws.proofs.Lists.{both_so}
 
 -- ---- The messages about a TEI.

@@ -19,7 +19,7 @@ use Rattle.lapd_bus_laws.specs.Links.{Throughout}
 use Rattle.lapd_bus_laws.proofs.Assigns.{HasNoManagementLink, AssignsAtMostOne, event_assigns}
 use Rattle.lapd_bus_laws.proofs.Claims.{Claims, Awaits, claim_is_taken, claims_before, reached_without, reached_by_assignment}
 use Rattle.lapd_bus_laws.proofs.Lists.{Each, Unique, each_set, each_map, unique_set, unique_map, map_back, any_at, any_other, either_some, some_first, not_both, any_weaker}
-use Rattle.lapd_bus_laws.proofs.Sole.{has_so}
+use Rattle.lapd_bus_laws.proofs.PremisesOfInterface.{has_so}
 
 -- ---- A terminal that joins.
 

@@ -14,7 +14,7 @@ use Rattle.lapd_two_side_laws.proofs.OwnSides.{AreHeld, AreOwn}
 use Rattle.lapd_bus_laws.specs.Assignments.{awaited, is_taken, IsSingle}
 use Rattle.lapd_side_events.specs.Bus.{Bus, BusEvent, OfTerminal, OfNetwork, Join, Restart, NewTerminal}
 use Rattle.lapd_bus_laws.specs.Holdings.{JoinsWithFree, KeepsTeisApart}
-use Rattle.lapd_bus_laws.proofs.Apart.{kept_apart}
+use Rattle.lapd_bus_laws.proofs.TerminalsApart.{kept_apart}
 use Rattle.lapd_bus_laws.proofs.Assigns.{HasNoManagementLink}
 use Rattle.lapd_bus_laws.proofs.Claims.{Claims, Awaits, claim_is_taken}
 use Rattle.lapd_bus_laws.proofs.Lists.{each_set, unique_set, any_other, not_both}

@@ -20,7 +20,7 @@ use Rattle.lapd_bus_laws.specs.Links.{IsNotAssigned, ObtainsOnce, IsAside, IsSol
 use Rattle.lapd_bus_laws.proofs.Lists.{Others, others_set, others_map, false_by, none_dropped, none_removed}
 use Rattle.lapd_bus_laws.proofs.Obtains.{event_obtains}
 use Rattle.lapd_bus_laws.proofs.Silent.{StaysSilent, stays_silent}
-use Rattle.lapd_bus_laws.proofs.Sole.{has_not, has_none}
+use Rattle.lapd_bus_laws.proofs.PremisesOfInterface.{has_not, has_none}
 use Rattle.lapd_restart_laws.specs.Restarts.{link_after, losses}
 use Rattle.lapd_restart_laws.proofs.Losses.{loss_of, losses_are}
 use Rattle.lapd_bus_restart_laws.specs.BusAcross.{restarted_as, terminal_restarts, step_across, after_across, ThroughoutAcross}

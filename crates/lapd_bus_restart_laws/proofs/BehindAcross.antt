@@ -157,9 +157,12 @@ right_behind_across c id i b (OfNetwork j event) after t low small_p small_q rea
     only clear keeps restarts =
     right_here c id low i b j event after reached is assigned only clear keeps restarts small_p
     small_q t at
-right_behind_across c id i b (OfTerminal j event) after t low small_p small_q reached is never at
-    only clear keeps restarts = absurd never
-right_behind_across c id i b (Join j new) after t low small_p small_q reached is never at only clear
-    keeps restarts = absurd never
-right_behind_across c id i b (Restart known) after t low small_p small_q reached is never at only
-    clear keeps restarts = absurd never
+right_behind_across c id i b (OfTerminal j event) after t low small_p small_q reached is impossible
+    at
+    only clear keeps restarts = absurd impossible
+right_behind_across c id i b (Join j new) after t low small_p small_q reached is impossible at only
+    clear
+    keeps restarts = absurd impossible
+right_behind_across c id i b (Restart known) after t low small_p small_q reached is impossible at
+    only
+    clear keeps restarts = absurd impossible

@@ -17,11 +17,11 @@ use Rattle.lapd_two_side_laws.proofs.Whole.{link_safe_as}
 use Rattle.lapd_bus_laws.specs.Assignments.{is_taken, claims}
 use Rattle.lapd_bus_laws.specs.Holdings.{Assigns, IsClearToNetwork, IsOnlyClaimant, IsReached, KeepsHolding, KeepsTeisApart, LeavesAlone}
 use Rattle.lapd_bus_laws.specs.Links.{Throughout}
-use Rattle.lapd_bus_laws.proofs.Apart.{kept_apart}
+use Rattle.lapd_bus_laws.proofs.TerminalsApart.{kept_apart}
 use Rattle.lapd_bus_laws.proofs.Followed.{one_event}
 use Rattle.lapd_bus_laws.proofs.Lists.{false_by, others_set}
 use Rattle.lapd_bus_laws.proofs.Single.{KeepsApart, fixed_of}
-use Rattle.lapd_bus_laws.proofs.Sole.{has_none}
+use Rattle.lapd_bus_laws.proofs.PremisesOfInterface.{has_none}
 use Rattle.lapd_restart_laws.specs.RestartPremises.{KeepPremises}
 use Rattle.lapd_restart_laws.specs.RestartRuns.{moved}
 use Rattle.lapd_restart_laws.specs.SafeAcross.{IsRightNow}
@@ -304,9 +304,12 @@ pub right_behind_old_frames : (c : Configs) (id : LinkId) (i : ℕ) (b : Bus) (e
 right_behind_old_frames c id i b (OfNetwork j event) after t low small_p small_q reached is assigned
     at only clear keeps =
     right_here c id low i b j event after reached is assigned only clear keeps small_p small_q t at
-right_behind_old_frames c id i b (OfTerminal j event) after t low small_p small_q reached is never
-    at only clear keeps = absurd never
-right_behind_old_frames c id i b (Join j new) after t low small_p small_q reached is never at only
-    clear keeps = absurd never
-right_behind_old_frames c id i b (Restart known) after t low small_p small_q reached is never at
-    only clear keeps = absurd never
+right_behind_old_frames c id i b (OfTerminal j event) after t low small_p small_q reached is
+    impossible
+    at only clear keeps = absurd impossible
+right_behind_old_frames c id i b (Join j new) after t low small_p small_q reached is impossible at
+    only
+    clear keeps = absurd impossible
+right_behind_old_frames c id i b (Restart known) after t low small_p small_q reached is impossible
+    at
+    only clear keeps = absurd impossible

@@ -17,7 +17,7 @@ use Rattle.lapd_bus_laws.specs.Holdings.{RequestsByItsOwn, RequestsUnanswered}
 use Rattle.lapd_bus_laws.proofs.Checks.{where_there, there_so, of_bus, of_bus_so, timely_for, timely_for_so, assigns_others, assigns_others_so, requests_by_its_own, requests_by_its_own_so}
 use Rattle.lapd_bus_laws.proofs.Lists.{both_so}
 use Rattle.lapd_side_events.proofs.Indices.{equal_index}
-use Rattle.lapd_bus_laws.proofs.Sole.{has_not}
+use Rattle.lapd_bus_laws.proofs.PremisesOfInterface.{has_not}
 use Rattle.lapd_restart_laws.specs.Exchanges.{is_command, is_answer, is_of_kind_for}
 use Rattle.lapd_restart_laws.specs.RestartPremises.{IsQuick}
 use Rattle.lapd_bus_restart_laws.specs.BusAcross.{step_across, ThroughoutAcross}

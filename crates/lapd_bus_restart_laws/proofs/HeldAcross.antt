@@ -27,7 +27,7 @@ use Rattle.lapd_bus_laws.proofs.Claims.{claims_before, obtains_claimed, reached_
 use Rattle.lapd_bus_laws.proofs.Lists.{Others, others_set, others_map, map_back, both_so, either_some, some_second, not_both, false_by, any_weaker}
 use Rattle.lapd_bus_laws.proofs.Obtains.{FirstAnswers, TakesAnswer, event_obtains}
 use Rattle.lapd_bus_laws.proofs.Single.{fixed_of}
-use Rattle.lapd_bus_laws.proofs.Sole.{has_so}
+use Rattle.lapd_bus_laws.proofs.PremisesOfInterface.{has_so}
 use Rattle.lapd_bus_restart_laws.specs.BusAcross.{restarted_as, terminal_restarts, step_across, ThroughoutAcross}
 use Rattle.lapd_bus_restart_laws.specs.HoldingsAcross.{OthersJoinWithout, KeepsHoldingAcross}
 use Rattle.lapd_bus_restart_laws.specs.LinksAcross.{AssignsOnce, ObtainsOnceAcross, KeepsLink}
@@ -45,8 +45,8 @@ no_offer : (tei : ℕ) (phase : Phase) (line : List Assignment)
     → list_any (is_offer tei phase) line ≡ false
 no_offer tei phase line unanswered = false_by _ (λ offer. by (awaited phase) refl offer)
   where
-    never : (ri : ℕ) → has_tei ri None ≡ true → ⊥
-    never ri is = cc
+    impossible : (ri : ℕ) → has_tei ri None ≡ true → ⊥
+    impossible ri is = cc
 
     same_reference : (ri n : ℕ) → (ri == n) ≡ true → (n == ri) ≡ true
     same_reference ri n e = grind (arith, nat_tests, e)
@@ -54,7 +54,7 @@ no_offer tei phase line unanswered = false_by _ (λ offer. by (awaited phase) re
     by : (o : Option ℕ) → awaited phase ≡ o → list_any (is_offer tei phase) line ≡ true → ⊥
     by None is offer = none_any line (any_weaker (is_offer tei phase)
         (λ (a : Assignment). false) line (λ a it.
-        absurd (never a.reference (ap (has_tei a.reference) (sym is)
+        absurd (impossible a.reference (ap (has_tei a.reference) (sym is)
         ∙ (both_so (is_of_tei tei a) (has_tei a.reference (awaited phase)) it).1))) offer)
     by (Some ri) is offer = not_both (list_any (has_reference ri) line)
         (any_weaker (is_offer tei phase) (has_reference ri) line (λ a it.
@@ -85,12 +85,12 @@ outstanding t (Take now) tei answer = first t.incoming answer
   where
     first : (line : List (List ℕ)) → FirstAnswers t.now line tei
         → Outstanding t.now.management.terminal
-    first [] never = absurd never
+    first [] impossible = absurd impossible
     first (octets ∷ rest) a = record { reference = a.reference; is = a.outstanding }
-outstanding t (Lose at) tei never = absurd never
-outstanding t (Expire timer of now) tei never = absurd never
-outstanding t (Ask request now) tei never = absurd never
-outstanding t (Overhear octets now) tei never = absurd never
+outstanding t (Lose at) tei impossible = absurd impossible
+outstanding t (Expire timer of now) tei impossible = absurd impossible
+outstanding t (Ask request now) tei impossible = absurd impossible
+outstanding t (Overhear octets now) tei impossible = absurd impossible
 
 module _ (c : Configs) (id : LinkId) (i : ℕ) where
   abbrev Offer : SideView User → Bool

@@ -27,7 +27,7 @@ use Rattle.lapd_bus_laws.specs.Links.{IsAside, IsNewHere, IsSole, IsNobodyElses}
 use Rattle.lapd_bus_laws.proofs.Assigns.{AssignsOne, AssignsAtMostOne, event_assigns}
 use Rattle.lapd_bus_laws.proofs.Lists.{Each, each_set, each_map, others_map, map_back, any_at, not_both, false_by}
 use Rattle.lapd_bus_laws.proofs.Single.{KeepsApart, no_management}
-use Rattle.lapd_bus_laws.proofs.Sole.{has_not}
+use Rattle.lapd_bus_laws.proofs.PremisesOfInterface.{has_not}
 use Rattle.lapd_restart_laws.specs.SafeAcross.{IsSafeAcross}
 use Rattle.lapd_bus_restart_laws.specs.BusAcross.{step_across, after_across, ThroughoutAcross, changes_along}
 use Rattle.lapd_bus_restart_laws.specs.HoldingsAcross.{IsReachedAcross, KeepsHoldingAcross}
@@ -129,9 +129,9 @@ assigned_now c id b (OfNetwork j event) h is (t, at, given) =
       unheld = none_holds c id b h j event t at free given;
       network = network_is_new c id b h j event t at free given;
     })
-assigned_now c id b (OfTerminal j event) h is never = absurd never
-assigned_now c id b (Join j new) h is never = absurd never
-assigned_now c id b (Restart known) h is never = absurd never
+assigned_now c id b (OfTerminal j event) h is impossible = absurd impossible
+assigned_now c id b (Join j new) h is impossible = absurd impossible
+assigned_now c id b (Restart known) h is impossible = absurd impossible
 
 -- ---- The laws.
 

@@ -9,7 +9,7 @@ use Rattle.lapd_side_events.specs.Interface.{Configs, Interface, by_user}
 use Rattle.lapd_two_side_laws.specs.Addressed.{is_for, those_for}
 use Rattle.lapd_two_side_laws.specs.Establishments.{LinkRecords}
 use Rattle.lapd_bus_laws.proofs.Lists.{none_first}
-use Rattle.lapd_bus_laws.proofs.Sole.{has_not, has_so}
+use Rattle.lapd_bus_laws.proofs.PremisesOfInterface.{has_not, has_so}
 use Rattle.lapd_restart_laws.specs.Exchanges.{is_answer, is_command, is_of_kind_for}
 use Rattle.lapd_restart_laws.specs.RestartPremises.{KeepPremises, KeepsPremises}
 use Rattle.lapd_restart_laws.specs.Restarts.{Change, Moves, NetworkRestarts, UserRestarts, changes, change_recorded, recorded_across, run_across}

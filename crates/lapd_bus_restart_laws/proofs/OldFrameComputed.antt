@@ -8,7 +8,7 @@ use Rattle.lapd_two_side_laws.specs.Schedule.{configs, call}
 use Rattle.lapd_bus_laws.specs.Holdings.{KeepsTeisApart, Assigns, IsOnlyClaimant, IsClearToNetwork}
 use Rattle.lapd_bus_laws.specs.Links.{Throughout}
 use Rattle.lapd_bus_laws.specs.Runs.{assigns_first, waiting_terminal}
-use Rattle.lapd_bus_laws.proofs.Apart.{new_are_apart}
+use Rattle.lapd_bus_laws.proofs.TerminalsApart.{new_are_apart}
 use Rattle.lapd_bus_laws.proofs.Checks as checks
 use Rattle.lapd_bus_laws.proofs.Checks.{keeps_teis_apart, keeps_teis_apart_so, no_fixed_is_single, assigns_now_so, only_claimant_so, is_clear_so}
 use Rattle.lapd_restart_laws.specs.Restarts.{losses}

@@ -53,7 +53,7 @@ pub record Knew (a b : Option (List IoEvent)) (io_events more : List IoEvent) : 
 
 knew : (a b : Option (List IoEvent)) (io_events more : List IoEvent) → b ≡ Some io_events
     → Adds a b more → Knew a b io_events more
-knew None None io_events more known adds = let never : None ≡ Some io_events = known in cc
+knew None None io_events more known adds = let impossible : None ≡ Some io_events = known in cc
 knew None (Some after) io_events more known adds = absurd adds
 knew (Some before) None io_events more known adds = absurd adds
 knew (Some before) (Some after) io_events more known adds =
@@ -130,7 +130,7 @@ no_wait_ends lines.Ignored woken.Line e = cc
 no_proceeding_ends : (service : Service) (a b : LiveState)
     → Proceeds service (Some end_reason.End) a b → ⊥
 no_proceeding_ends service a b (inl audits) =
-    let never : Some end_reason.End ≡ None = audits.is in cc
+    let impossible : Some end_reason.End ≡ None = audits.is in cc
 no_proceeding_ends service a b (inr waits) =
     no_wait_ends service.lines waits.woken (sym waits.is)
 

@@ -730,7 +730,8 @@ session_ended tidy serve_on goes_on (Some octets) now new held holds end_reason 
 last_quits : (tidy : Tidy) (octets held : List ℕ) (n : ℕ) (a b c : Session) → HasNoFeed held
     → TakesLines AwaitsQuietly (TypesOn tidy) octets held 0 n a b → TypesLast tidy held false b c
     → Quits tidy (lines_of octets) a c
-last_quits tidy octets [] n a b c none takes types = let never : false ≡ true = types.0 in absurd cc
+last_quits tidy octets [] n a b c none takes types =
+    let impossible : false ≡ true = types.0 in absurd cc
 last_quits tidy octets (o ∷ held) n a b c none takes types =
     let all : lines_of octets ≡ takes.lines ++ (o ∷ held) ∷ [] =
     taken_all takes.lines octets (o ∷ held) takes.taken

@@ -79,7 +79,8 @@ pub management_printed : (timers : Option Timers) (t : Timers) (now : ℕ) (word
     (a b : LiveState) → timers ≡ Some t → words ≡ management_text t now
     → (length words == 0) ≡ false → HappenBeside (Shows (Worded words) ∷ []) a b
     → HappenBeside (management_events timers now) a b
-management_printed timers t now [] a b is are some prints = let never : true ≡ false = some in cc
+management_printed timers t now [] a b is are some prints =
+    let impossible : true ≡ false = some in cc
 management_printed timers t now (first ∷ words) a b is are some prints =
     subst (λ (x : Option Timers). HappenBeside (management_events x now) a b) (sym is)
     (subst (λ (x : List ℕ). HappenBeside (line_unless_empty x) a b) are prints)

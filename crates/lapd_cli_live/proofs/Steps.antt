@@ -185,7 +185,7 @@ received_by until count (Some why) a b c some takes is one =
 pub received_end : (end_reason : Option EndReason) (a b : LiveState)
     → HasReceived until.NoEvent end_reason a b → Receives until.NoEvent a b
 received_end None a b receives = receives
-received_end (Some why) a b ends = let never : None ≡ Some why = ends.ends in cc
+received_end (Some why) a b ends = let impossible : None ≡ Some why = ends.ends in cc
 
 -- ---- Expiring.
 

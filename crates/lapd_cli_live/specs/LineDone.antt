@@ -90,7 +90,7 @@ begun true s = s
 begun false s = forgetting s
 
 -- a line is a request, read with the side's own TEI, and is executed as this request
-pub record Obeys (octets : List ℕ) (lines : Lines) (a b : LiveState) : Type 0 where
+pub record Executes (octets : List ℕ) (lines : Lines) (a b : LiveState) : Type 0 where
   pub own : ℕ
   pub own_is : HasOwnTei a.side own
   pub asked : LiveLine

@@ -30,7 +30,7 @@ use Rattle.lapd_cli_live.specs.Typed.{typed_action_of}
 use Rattle.lapd_cli_live.specs.Log.{Chain, HappenBeside, LiveState, state_of}
 use Rattle.lapd_cli_live.specs.Steps.{IsServed}
 use Rattle.lapd_cli_live.specs.WaitingLines.{Runs, keeping, service}
-use Rattle.lapd_cli_live.specs.LineDone.{HasOwnTei, LineDone, MissesLine, Obeys, begun, is_expect}
+use Rattle.lapd_cli_live.specs.LineDone.{HasOwnTei, LineDone, MissesLine, Executes, begun, is_expect}
 
 -- ---- One line.
 
@@ -60,7 +60,7 @@ pub record IsUnmet (octets : List ℕ) (lines : Lines) (a b : LiveState) : Type 
 
 -- the outcome of a line
 abbrev pub ExecutesAs : Executed → List ℕ → Lines → LiveState → LiveState → Type 0
-ExecutesAs executed.Done octets lines a b = Obeys octets lines a b
+ExecutesAs executed.Done octets lines a b = Executes octets lines a b
 ExecutesAs executed.Bad octets lines a b = IsBad octets a b
 ExecutesAs executed.Unmet octets lines a b = IsUnmet octets lines a b
 
@@ -121,12 +121,12 @@ ServesOn false a b = b ≡ a
 -- ---- Scripts.
 
 -- a line of a script is executed, unless it is skipped
-abbrev pub ObeysUnless : Bool → List ℕ → LiveState → LiveState → Type 0
-ObeysUnless true octets a b = b ≡ a
-ObeysUnless false octets a b = Obeys octets Ignored a b
+abbrev pub ExecutesUnless : Bool → List ℕ → LiveState → LiveState → Type 0
+ExecutesUnless true octets a b = b ≡ a
+ExecutesUnless false octets a b = Executes octets Ignored a b
 
 abbrev pub DoesLine : List ℕ → LiveState → LiveState → Type 0
-DoesLine octets a b = ObeysUnless (is_passed_over octets) octets a b
+DoesLine octets a b = ExecutesUnless (is_passed_over octets) octets a b
 
 -- The lines before one of them are executed. That one has this outcome, and no line after it is
 -- executed. Its number counts from the lines before all of these.

@@ -264,7 +264,7 @@ module _ (c : Configs) (id : LinkId) (low : id.tei < 127) (longest : ℕ) (posit
   any_moment from now line none = All-weaker
       (λ (sent : Sent). is_for from id sent.octets ≡ true → ⊥)
       (λ (sent : Sent). is_for from id sent.octets ≡ true → sent.at ≤ now)
-      (λ sent never its. absurd (never its)) line none
+      (λ sent impossible its. absurd (impossible its)) line none
 
   pub starts : (i : Interface) (k : Clock) → Shows k i → IsClear id i
       → HasLongT200 longest (i.user.served.links id)

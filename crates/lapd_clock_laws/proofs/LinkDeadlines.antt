@@ -53,7 +53,7 @@ IsSet now t u = (u.t200 ≡ None) ⊎ (u.t200 ≡ Some (deadline_from now t.dura
 -- or its deadline is unchanged, and no command with P=1 was sent
 record IsUnset (owing : Bool) (outs : List Out) (t u : Timers) : Type 0 where
   pub same : u.t200 ≡ t.t200
-  pub free : owing ≡ false
+  pub owes_nothing : owing ≡ false
   pub none : list_any sends_poll outs ≡ false
 
 abbrev IsTimed : ℕ → Bool → List Out → Timers → Timers → Type 0
@@ -64,13 +64,13 @@ one_unset : (now : ℕ) (out : Out) (outs : List Out) (owing : Bool) (t s u : Ti
     → s.t200 ≡ t.t200 → s.durations ≡ t.durations
     → ((owes_by out owing ≡ false) → (owing ≡ false) × (sends_poll out ≡ false))
     → IsTimed now (owes_by out owing) outs s u → IsTimed now owing (out ∷ outs) t u
-one_unset now out outs owing t s u same long free (inl (inl stopped)) = inl (inl stopped)
-one_unset now out outs owing t s u same long free (inl (inr started)) =
+one_unset now out outs owing t s u same long owes_nothing (inl (inl stopped)) = inl (inl stopped)
+one_unset now out outs owing t s u same long owes_nothing (inl (inr started)) =
     inl (inr (started ∙ ap (λ (d : Lengths). Some (deadline_from now d.t200)) long))
-one_unset now out outs owing t s u same long free (inr h) = inr (record {
+one_unset now out outs owing t s u same long owes_nothing (inr h) = inr (record {
   same = h.same ∙ same;
-  free = (free h.free).0;
-  none = rw ((free h.free).1, h.none) refl;
+  owes_nothing = (owes_nothing h.owes_nothing).0;
+  none = rw ((owes_nothing h.owes_nothing).1, h.none) refl;
 })
 
 -- one more output, which starts or stops T200
@@ -88,45 +88,46 @@ either_free a owing h = let two = neither a owing h in (two.1, two.0)
 
 t200_timed : (now : ℕ) (outs : List Out) (owing : Bool) (t : Timers) → owes outs owing ≡ false
     → IsTimed now owing outs t (timed now outs t)
-t200_timed now [] owing t paid = inr (record { same = refl; free = paid; none = refl })
-t200_timed now (Start T200 ∷ outs) owing t paid = one_set now (Start T200) outs owing t
+t200_timed now [] owing t nothing_owed =
+    inr (record { same = refl; owes_nothing = nothing_owed; none = refl })
+t200_timed now (Start T200 ∷ outs) owing t nothing_owed = one_set now (Start T200) outs owing t
     (started now T200 t) (timed now outs (started now T200 t)) (inr refl) refl
-    (t200_timed now outs false (started now T200 t) paid)
-t200_timed now (Start T201 ∷ outs) owing t paid = one_unset now (Start T201) outs owing t
+    (t200_timed now outs false (started now T200 t) nothing_owed)
+t200_timed now (Start T201 ∷ outs) owing t nothing_owed = one_unset now (Start T201) outs owing t
     (started now T201 t) (timed now outs (started now T201 t)) refl refl (λ h. (h, refl))
-    (t200_timed now outs owing (started now T201 t) paid)
-t200_timed now (Start T202 ∷ outs) owing t paid = one_unset now (Start T202) outs owing t
+    (t200_timed now outs owing (started now T201 t) nothing_owed)
+t200_timed now (Start T202 ∷ outs) owing t nothing_owed = one_unset now (Start T202) outs owing t
     (started now T202 t) (timed now outs (started now T202 t)) refl refl (λ h. (h, refl))
-    (t200_timed now outs owing (started now T202 t) paid)
-t200_timed now (Start T203 ∷ outs) owing t paid = one_unset now (Start T203) outs owing t
+    (t200_timed now outs owing (started now T202 t) nothing_owed)
+t200_timed now (Start T203 ∷ outs) owing t nothing_owed = one_unset now (Start T203) outs owing t
     (started now T203 t) (timed now outs (started now T203 t)) refl refl (λ h. (h, refl))
-    (t200_timed now outs owing (started now T203 t) paid)
-t200_timed now (Stop T200 ∷ outs) owing t paid = one_set now (Stop T200) outs owing t
+    (t200_timed now outs owing (started now T203 t) nothing_owed)
+t200_timed now (Stop T200 ∷ outs) owing t nothing_owed = one_set now (Stop T200) outs owing t
     (stopped T200 t) (timed now outs (stopped T200 t)) (inl refl) refl
-    (t200_timed now outs owing (stopped T200 t) paid)
-t200_timed now (Stop T201 ∷ outs) owing t paid = one_unset now (Stop T201) outs owing t
+    (t200_timed now outs owing (stopped T200 t) nothing_owed)
+t200_timed now (Stop T201 ∷ outs) owing t nothing_owed = one_unset now (Stop T201) outs owing t
     (stopped T201 t) (timed now outs (stopped T201 t)) refl refl (λ h. (h, refl))
-    (t200_timed now outs owing (stopped T201 t) paid)
-t200_timed now (Stop T202 ∷ outs) owing t paid = one_unset now (Stop T202) outs owing t
+    (t200_timed now outs owing (stopped T201 t) nothing_owed)
+t200_timed now (Stop T202 ∷ outs) owing t nothing_owed = one_unset now (Stop T202) outs owing t
     (stopped T202 t) (timed now outs (stopped T202 t)) refl refl (λ h. (h, refl))
-    (t200_timed now outs owing (stopped T202 t) paid)
-t200_timed now (Stop T203 ∷ outs) owing t paid = one_unset now (Stop T203) outs owing t
+    (t200_timed now outs owing (stopped T202 t) nothing_owed)
+t200_timed now (Stop T203 ∷ outs) owing t nothing_owed = one_unset now (Stop T203) outs owing t
     (stopped T203 t) (timed now outs (stopped T203 t)) refl refl (λ h. (h, refl))
-    (t200_timed now outs owing (stopped T203 t) paid)
-t200_timed now (Send Command control ∷ outs) owing t paid =
+    (t200_timed now outs owing (stopped T203 t) nothing_owed)
+t200_timed now (Send Command control ∷ outs) owing t nothing_owed =
     one_unset now (Send Command control) outs owing t t (timed now outs t) refl refl
     (either_free (poll_final control) owing)
-    (t200_timed now outs (poll_final control || owing) t paid)
-t200_timed now (SendMessage place control ∷ outs) owing t paid =
+    (t200_timed now outs (poll_final control || owing) t nothing_owed)
+t200_timed now (SendMessage place control ∷ outs) owing t nothing_owed =
     one_unset now (SendMessage place control) outs owing t t (timed now outs t) refl refl
     (either_free (poll_final control) owing)
-    (t200_timed now outs (poll_final control || owing) t paid)
-t200_timed now (Send Answer control ∷ outs) owing t paid =
+    (t200_timed now outs (poll_final control || owing) t nothing_owed)
+t200_timed now (Send Answer control ∷ outs) owing t nothing_owed =
     one_unset now (Send Answer control) outs owing t t (timed now outs t) refl refl
-    (λ h. (h, refl)) (t200_timed now outs owing t paid)
-t200_timed now (other ∷ outs) owing t paid =
+    (λ h. (h, refl)) (t200_timed now outs owing t nothing_owed)
+t200_timed now (other ∷ outs) owing t nothing_owed =
     one_unset now other outs owing t t (timed now outs t) refl refl (λ h. (h, refl))
-    (t200_timed now outs owing t paid)
+    (t200_timed now outs owing t nothing_owed)
 
 durations_by : (now : ℕ) (out : Out) (t : Timers) → (timed_by now out t).durations ≡ t.durations
 durations_by now (Start T200) t = refl
@@ -389,7 +390,7 @@ module _ (least now : ℕ) (side : Side) (id : LinkId) (polled : Bool) where
     pub step_continues : Continues (before id) (after id) effects.frames
     step_continues long = record {
       deadline = λ deadline is. deadline_after long deadline (t200_then deadline is)
-          (t200_timed now x.done.outs false Changed guarded.paid);
+          (t200_timed now x.done.outs false Changed guarded.owes_nothing);
       answers = λ any. guarded.silent (answers_if any);
       long = long_after long;
     }

@@ -124,7 +124,7 @@ one_of_both false b h = inr h
 -- T200 was started after each command with P=1, and a response with F=1 was sent only if a command
 -- with P=1 was received
 pub record IsGuarded (polled : Bool) (outs : List Out) : Type 0 where
-  pub paid : owes outs false ≡ false
+  pub owes_nothing : owes outs false ≡ false
   pub silent : list_any answers_poll outs ≡ true → polled ≡ true
 
 status_bit : (pf : Bool) (m : StateVariables) → poll_final (status_frame pf m) ≡ pf
@@ -149,7 +149,8 @@ module _ (polled : Bool) where
 
   more : (xs ys : List Out) → ArePlain ys → IsGuarded polled xs → IsGuarded polled (xs ++ ys)
   more xs ys plain h = record {
-    paid = owes_both xs ys false ∙ ap (owes ys) h.paid ∙ all_plain_owe ys false plain;
+    owes_nothing =
+        owes_both xs ys false ∙ ap (owes ys) h.owes_nothing ∙ all_plain_owe ys false plain;
     silent = silent_both xs ys h.silent
         (λ any. (let none : false ≡ true = sym (all_plain_answer ys plain) ∙ any in cc));
   }
@@ -157,14 +158,14 @@ module _ (polled : Bool) where
   answered : (xs : List Out) (control : Control) → (poll_final control ≡ true → polled ≡ true)
       → IsGuarded polled xs → IsGuarded polled (xs ++ Send Answer control ∷ [])
   answered xs control allowed h = record {
-    paid = owes_both xs (Send Answer control ∷ []) false ∙ h.paid;
+    owes_nothing = owes_both xs (Send Answer control ∷ []) false ∙ h.owes_nothing;
     silent = silent_both xs (Send Answer control ∷ []) h.silent
         (λ any. allowed (or_false (poll_final control) any));
   }
 
   starting : (xs : List Out) → Silent xs → IsGuarded polled (xs ++ Start T200 ∷ [])
   starting xs h = record {
-    paid = owes_both xs (Start T200 ∷ []) false;
+    owes_nothing = owes_both xs (Start T200 ∷ []) false;
     silent = silent_both xs (Start T200 ∷ []) h (λ any. cc);
   }
 
@@ -257,7 +258,8 @@ module _ (polled : Bool) where
   enquires : (s : StepState) → P s → P (transmit_enquiry s)
   unfolding transmit_enquiry
   enquires s h = record {
-    paid = owes_both s.outs (Send Command (status_frame true s.end.window) ∷ Start T200 ∷ []) false;
+    owes_nothing =
+        owes_both s.outs (Send Command (status_frame true s.end.window) ∷ Start T200 ∷ []) false;
     silent = silent_both s.outs (Send Command (status_frame true s.end.window) ∷ Start T200 ∷ [])
         h.silent (λ any. cc);
   }
@@ -267,7 +269,7 @@ module _ (polled : Bool) where
   repeats r s h =
       let last = SendMessage (s.end.next - 1 - s.end.first) (last_i_frame r s.end.window) in
       record {
-        paid = owes_both s.outs (last ∷ Start T200 ∷ []) false;
+        owes_nothing = owes_both s.outs (last ∷ Start T200 ∷ []) false;
         silent = silent_both s.outs (last ∷ Start T200 ∷ []) h.silent (λ any. cc);
       }
 
@@ -423,9 +425,9 @@ module _ (polled : Bool) where
   unfolding busy_on
   busy s h = either P s.end.window.own_busy _ _ (λ _. h) (λ _. owns true _ h)
 
-  free : (s : StepState) → P s → P (busy_off s)
+  own_busy_off : (s : StepState) → P s → P (busy_off s)
   unfolding busy_off
-  free s h = either P s.end.window.own_busy _ _ (λ _. owns false _ h) (λ _. h)
+  own_busy_off s h = either P s.end.window.own_busy _ _ (λ _. owns false _ h) (λ _. h)
 
   in_both : (input : Input) (s : StepState) → Knows input → P s → P (in_7_and_8 input s)
   unfolding in_7_and_8
@@ -434,7 +436,7 @@ module _ (polled : Bool) where
       (asks (Disc true) _ (rcs 0 _ (discards _ h)))))
   in_both (Give message) s k h = queues message _ h
   in_both BusyOn s k h = busy s h
-  in_both BusyOff s k h = free s h
+  in_both BusyOff s k h = own_busy_off s h
   in_both (Heard (Sabme p) Command) s k h = states _ _ (zeroes _ (starts_203 _ (stops T200 _
       (loses _ (puts _ _ tt (clears _ (answers (Ua p) _ k h)))))))
   in_both (Heard (Disc p) Command) s k h = states _ _ (stops T203 _ (stops T200 _
@@ -598,7 +600,7 @@ module _ (polled : Bool) where
 
     begun : (e : End) → P (begin e)
     unfolding begin
-    begun e = record { paid = refl; silent = λ any. cc }
+    begun e = record { owes_nothing = refl; silent = λ any. cc }
 
     pub each_step : (input : Input) (e : End) (s : StepState) → Knows input → step r input e ≡ Ok s
         → IsGuarded polled s.outs

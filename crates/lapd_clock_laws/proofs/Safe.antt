@@ -21,7 +21,7 @@ use Rattle.lapd_bus_laws.specs.Holdings.{Assigns, IsClear, IsOnlyClaimant, IsRea
 use Rattle.lapd_bus_laws.specs.Links.{AssignsOthers, IsNewHere, IsSole, ObtainsOnce, Throughout}
 use Rattle.lapd_bus_laws.proofs.Holding.{first_is_safe, holding_is_safe}
 use Rattle.lapd_bus_laws.proofs.Lists.{map_back}
-use Rattle.lapd_bus_laws.proofs.Sole.{safe_here}
+use Rattle.lapd_bus_laws.proofs.PremisesOfInterface.{safe_here}
 use Rattle.lapd_clock_laws.specs.Buses.{HasLine, KeepsTei}
 use Rattle.lapd_clock_laws.specs.Clock.{Clock, Shows, new_clock}
 use Rattle.lapd_clock_laws.specs.InTime as clear

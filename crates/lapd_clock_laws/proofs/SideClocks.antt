@@ -254,7 +254,8 @@ module _ (longest : ℕ) (side other : Side) (id : LinkId) where
           (λ octets answers. λ _. late) (λ octets none. λ _. late) frames
       by deadline is false none = none_sent_now (IsEarlyAnswer deadline) (is_final_for other id)
           (moment_of event k.now)
-          (λ octets no answers. (let never : false ≡ true = sym no ∙ answers in cc)) frames none
+          (λ octets no answers. (let impossible : false ≡ true =
+          sym no ∙ answers in cc)) frames none
 
   -- ---- T200 expires only when nothing that it awaits is in transit.
 

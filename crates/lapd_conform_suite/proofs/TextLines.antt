@@ -16,5 +16,5 @@ one_line octet (next ∷ line) h = rw (ne_eqb _ _ h.0, one_line next line h.1) r
 
 pub last_line : (text : List ℕ) → HasNoFeed text → 0 < length text
     → lines_of text ≡ text ∷ lines_of []
-last_line [] h some = absurd (let never : ⊥ = omega arith in never)
+last_line [] h some = absurd (let impossible : ⊥ = omega arith in impossible)
 last_line (octet ∷ line) h some = one_line octet line h

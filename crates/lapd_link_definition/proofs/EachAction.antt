@@ -208,9 +208,9 @@ module _ (r : Reading) (E : Timer → StepState → Type 0) (P Q : StepState →
   unfolding busy_on
   busy s h = either P s.end.window.own_busy _ _ (λ _. h) (λ _. w.owns true _ h)
 
-  free : (s : StepState) → P s → P (busy_off s)
+  own_busy_off : (s : StepState) → P s → P (busy_off s)
   unfolding busy_off
-  free s h = either P s.end.window.own_busy _ _ (λ _. w.owns false _ h) (λ _. h)
+  own_busy_off s h = either P s.end.window.own_busy _ _ (λ _. w.owns false _ h) (λ _. h)
 
   in_both : (input : Input) (s : StepState)
       → ((message : List ℕ) → input ≡ Give message → M message) → (is_sabme input ≡ true → B) → P s
@@ -222,7 +222,7 @@ module _ (r : Reading) (E : Timer → StepState → Type 0) (P Q : StepState →
       (w.starts T200 _ (w.stops T203 _ (w.puts _ _ (refl, tt) (w.rcs 0 _ (w.discards _ h)))))
   in_both (Give message) s m b h = w.queues message _ (m message refl) h
   in_both BusyOn s m b h = busy s h
-  in_both BusyOff s m b h = free s h
+  in_both BusyOff s m b h = own_busy_off s h
   in_both (Heard (Sabme p) Command) s m b h =
       w.states _ _ (w.zeroes _ (b refl) (w.starts T203 _
       (w.stops T200 _

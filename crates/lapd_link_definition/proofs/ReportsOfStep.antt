@@ -255,9 +255,9 @@ module _ (r : Reading) where
   unfolding busy_on
   busy s h = either P s.end.window.own_busy _ _ (λ _. h) (λ _. owns true _ h)
 
-  free : (s : StepState) → P s → P (busy_off s)
+  own_busy_off : (s : StepState) → P s → P (busy_off s)
   unfolding busy_off
-  free s h = either P s.end.window.own_busy _ _ (λ _. owns false _ h) (λ _. h)
+  own_busy_off s h = either P s.end.window.own_busy _ _ (λ _. owns false _ h) (λ _. h)
 
   -- a UA, a DM and a FRMR are unsolicited
   abbrev IsDueInBoth : Input → Type 0
@@ -273,7 +273,7 @@ module _ (r : Reading) where
       states _ _ (starts T200 _ (stops T203 _ (puts _ _ tt (rcs 0 _ (discards _ h)))))
   in_both (Give message) s due h = queues message _ h
   in_both BusyOn s due h = busy s h
-  in_both BusyOff s due h = free s h
+  in_both BusyOff s due h = own_busy_off s h
   in_both (Heard (Sabme p) Command) s due h =
       states _ _
       (zeroes _ (starts T203 _ (stops T200 _ (loses _ (puts _ _ tt (clears _ (puts _ _ tt h)))))))

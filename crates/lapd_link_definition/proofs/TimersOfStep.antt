@@ -455,10 +455,10 @@ module _ (r : Reading) (b c : Bool) (Numbers : Type 0) where
   busy {q = q} {t = t} {u = u} {level = level} s h =
       either (P q t u level) s.end.window.own_busy _ _ (λ on. h) (λ off. owns true _ h)
 
-  free : {q : State} {t u level : Bool} (s : StepState) → P q t u level s
+  own_busy_off : {q : State} {t u level : Bool} (s : StepState) → P q t u level s
       → P q t u level (busy_off s)
   unfolding busy_off
-  free {q = q} {t = t} {u = u} {level = level} s h =
+  own_busy_off {q = q} {t = t} {u = u} {level = level} s h =
       either (P q t u level) s.end.window.own_busy _ _ (λ on. owns false _ h) (λ off. h)
 
   in_both : {q : State} {t u level : Bool} (input : Input) (s : StepState) → Allowed q t u level
@@ -472,7 +472,7 @@ module _ (r : Reading) (b c : Bool) (Numbers : Type 0) where
       (λ n. (refl, refl))
   in_both (Give message) s a h = ends _ (queues message _ h) (λ n. a)
   in_both BusyOn s a h = ends _ (busy s h) (λ n. a)
-  in_both BusyOff s a h = ends _ (free s h) (λ n. a)
+  in_both BusyOff s a h = ends _ (own_busy_off s h) (λ n. a)
   in_both (Heard (Sabme p) Command) s a h =
       ends _ (states _ _ (zeroes _ (starts_203 _
       (stops_200 _ (loses _ (puts _ _ tt (clears _ (puts _ _ (refl, tt) h))))))))

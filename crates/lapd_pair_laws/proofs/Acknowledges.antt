@@ -27,7 +27,7 @@ acknowledging nr x = record x { sends = acknowledging_sender nr x.sends }
 -- a place among n places from `low` on
 pub among_range : (low n place : ℕ) → IsAmong place (range_with_len low n)
     → (i : ℕ) × (i < n) × (place ≡ low + i)
-among_range low zero place never = absurd never
+among_range low zero place impossible = absurd impossible
 among_range low (suc n) place (inl here) = (0, omega arith, omega (arith, here))
 among_range low (suc n) place (inr there) =
     let later = among_range (low + 1) n place there in

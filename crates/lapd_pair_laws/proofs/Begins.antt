@@ -138,7 +138,7 @@ closed_stream_of_none speaking s received rejecting closed = record {
   placed = tt;
   near = tt;
   order = order_of_none rejecting 0 s.vs [] refl;
-  step = λ some. elim some [ inl speaks ↦ cc | inr never ↦ absurd never ];
+  step = λ some. elim some [ inl speaks ↦ cc | inr impossible ↦ absurd impossible ];
   between = λ speaks. cc;
 }
 

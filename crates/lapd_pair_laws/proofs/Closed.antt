@@ -253,7 +253,7 @@ received_nothing z y here closed its_closed none = record {
         placed = tt;
         near = tt;
         order = tt;
-        step = λ some. elim some [ inl speaks ↦ cc | inr never ↦ absurd never ];
+        step = λ some. elim some [ inl speaks ↦ cc | inr impossible ↦ absurd impossible ];
         between = λ speaks. cc;
       });
   acks =

@@ -109,18 +109,18 @@ ends_established_by_layer3 c ks s is b =
     (subst (λ st. IsConsistentSender st true s.end.release_pending
     (still_sender n n (all_passed x.sends) x.sends)) (sym is)
     (empties n n (all_passed x.sends) x.sends refl refl)) (passes_all x c.peer l ks b)
-    (λ h. let never : is_holding AwaitingEstablishment true s.end.release_pending ≡ true =
+    (λ h. let impossible : is_holding AwaitingEstablishment true s.end.release_pending ≡ true =
     subst (λ st. is_holding st true s.end.release_pending ≡ true) is h in cc)
     (same refl (receives_less x (part_whole ks))))
 
 never_holds : (state : State) (asked : Bool) → state ≡ AwaitingEstablishment
     → is_holding state asked true ≡ true → ⊥
 never_holds state true is h =
-    let never : is_holding AwaitingEstablishment true true ≡ true =
+    let impossible : is_holding AwaitingEstablishment true true ≡ true =
     subst (λ st. is_holding st true true ≡ true) is h in
     cc
 never_holds state false is h =
-    let never : is_holding AwaitingEstablishment false true ≡ true =
+    let impossible : is_holding AwaitingEstablishment false true ≡ true =
     subst (λ st. is_holding st false true ≡ true) is h in
     cc
 

@@ -25,9 +25,9 @@ use Rattle.lapd_pair_laws.proofs.Steps.{context, begun}
 use Rattle.lapd_pair_laws.proofs.Worlds.{left_by, exchanged}
 use Rattle.lapd_pair_laws.specs.Timed.{IsClosed, IsSettledEnd, AreSettledEnds}
 use Rattle.lapd_pair_laws.proofs.Flow.{source, sink, Stage, Clean, Waiting, Polling, Answered, IsAt, Flow}
-use Rattle.lapd_pair_laws.proofs.Draws.{with_pending, is_ready, AreReady, Draws}
-use Rattle.lapd_pair_laws.proofs.DrawRows as rows
-use Rattle.lapd_pair_laws.proofs.DrawCloses.{draws_close}
+use Rattle.lapd_pair_laws.proofs.WorkOfActions.{with_pending, is_ready, AreReady, Draws}
+use Rattle.lapd_pair_laws.proofs.WorkOfRows as rows
+use Rattle.lapd_pair_laws.proofs.WorkOfClosing.{draws_close}
 use Rattle.lapd_pair_laws.proofs.SettledEnds.{closed_step}
 
 -- ---- The view of a side.

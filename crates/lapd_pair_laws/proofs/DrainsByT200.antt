@@ -16,8 +16,8 @@ use Rattle.lapd_pair_laws.proofs.Lists.{by_test}
 use Rattle.lapd_pair_laws.proofs.Steps.{context}
 use Rattle.lapd_pair_laws.proofs.Worlds.{left_by}
 use Rattle.lapd_pair_laws.proofs.Flow.{source, sink, Stage, Clean, Waiting, Polling, Answered, IsAt, Stream}
-use Rattle.lapd_pair_laws.proofs.Draws.{Draws}
-use Rattle.lapd_pair_laws.proofs.DrawCloses.{draws_close, draws_t200}
+use Rattle.lapd_pair_laws.proofs.WorkOfActions.{Draws}
+use Rattle.lapd_pair_laws.proofs.WorkOfClosing.{draws_close, draws_t200}
 use Rattle.lapd_pair_laws.proofs.Drains.{Seen, mine_open, after_step, preserved_after}
 use Rattle.lapd_pair_laws.proofs.SettledEnds.{closed_step}
 

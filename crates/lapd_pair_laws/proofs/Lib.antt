@@ -59,12 +59,12 @@ pub mod Timers
 pub mod SettledEnds
 pub mod Flow
 pub mod StreamReceipts
-pub mod Speaks
+pub mod SenderStream
 pub mod Facts
 pub mod States
-pub mod Draws
-pub mod DrawRows
-pub mod DrawCloses
+pub mod WorkOfActions
+pub mod WorkOfRows
+pub mod WorkOfClosing
 pub mod Drains
 pub mod DrainsByT200
 pub mod Settles

@@ -15,7 +15,7 @@ never_so : (places : List ℕ)
 never_so [] same among = among
 never_so (place ∷ next ∷ places) same among = cc
 never_so (zero ∷ []) same (inl here) = omega (arith, here)
-never_so (zero ∷ []) same (inr never) = never
+never_so (zero ∷ []) same (inr impossible) = impossible
 never_so (suc zero ∷ []) same among = grind (arith, same)
 never_so (suc (suc place) ∷ []) same among = cc
 

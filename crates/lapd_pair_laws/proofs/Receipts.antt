@@ -28,7 +28,7 @@ place_arrives (s ∷ rs) r = inr (place_arrives rs r)
 pub place_either : (place : ℕ) (rs : List Receipt) (r : Receipt) → HasPlace place (rs ++ r ∷ [])
     → HasPlace place rs ⊎ (r.place ≡ place)
 place_either place [] r (inl here) = inr here
-place_either place [] r (inr never) = absurd never
+place_either place [] r (inr impossible) = absurd impossible
 place_either place (s ∷ rs) r (inl here) = inl (inl here)
 place_either place (s ∷ rs) r (inr there) =
     elim (place_either place rs r there) [ inl before ↦ inl (inr before) | inr new ↦ inr new ]

@@ -45,7 +45,7 @@ module _ (x y : Party) (is : x.state ≡ TeiAssigned) where
       placed = tt;
       near = tt;
       order = nothing_in_order y.takes.rejecting y.takes.vr x.sends.vs;
-      step = λ some. elim some [ inl speaks ↦ cc | inr never ↦ absurd never ];
+      step = λ some. elim some [ inl speaks ↦ cc | inr impossible ↦ absurd impossible ];
       between = λ speaks. cc;
     };
     acks = record { climb = ordered; known = tt; top = λ speaks. cc };

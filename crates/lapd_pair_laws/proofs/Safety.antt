@@ -36,7 +36,7 @@ user_prefix place (suc zero) (inr (inl here)) less equal =
     let other : Some 1 ≡ Some 2 = subst (λ p. user_sent_in 1 ≡ user_sent_in p) (sym here) equal in
     grind (arith, other)
 user_prefix place (suc (suc n)) (inr (inl here)) less equal = absurd (omega (arith, here, less))
-user_prefix place smaller (inr (inr never)) less equal = absurd never
+user_prefix place smaller (inr (inr impossible)) less equal = absurd impossible
 
 pub user_is_safe : IsSafe ((8 ∷ 1 ∷ []) ∷ (8 ∷ 2 ∷ []) ∷ (8 ∷ 3 ∷ []) ∷ []) user_sent_in
     (0 ∷ 2 ∷ []) (receipt 0 1 (8 ∷ 1 ∷ []) ∷ receipt 2 2 (8 ∷ 3 ∷ []) ∷ [])
@@ -55,7 +55,7 @@ network_sent_in place = if place == 0 then Some 1 else None
 network_prefix : (place smaller : ℕ) → IsAmong place (0 ∷ []) → smaller < place
     → network_sent_in smaller ≡ network_sent_in place → IsAmong smaller (0 ∷ [])
 network_prefix place smaller (inl here) less equal = absurd (omega (arith, here, less))
-network_prefix place smaller (inr never) less equal = absurd never
+network_prefix place smaller (inr impossible) less equal = absurd impossible
 
 pub network_is_safe : IsSafe ((5 ∷ []) ∷ []) network_sent_in (0 ∷ []) (receipt 0 1 (5 ∷ []) ∷ [])
 network_is_safe = record {
@@ -115,7 +115,7 @@ missing_at [] prefix same = cc
 missing_at (zero ∷ places) prefix same = grind (arith, same)
 missing_at (suc zero ∷ []) prefix same =
     elim (prefix 1 0 (inl refl) (omega arith) refl)
-    [ inl here ↦ omega (arith, here) | inr never ↦ never ]
+    [ inl here ↦ omega (arith, here) | inr impossible ↦ impossible ]
 missing_at (suc zero ∷ place ∷ places) prefix same = cc
 missing_at (suc (suc place) ∷ places) prefix same = cc
 

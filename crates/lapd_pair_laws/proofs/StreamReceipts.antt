@@ -79,13 +79,13 @@ module _ (y : Source) (x : Sink) (m : Message) (nr : ℕ) (ks out : List Kind) w
   -- that will be sent) or a final.
   clean_taken : (u : Kind) → number_of u ≡ (x.vr + 1) ∷ [] → rejection_of u ≡ [] → m.number ≡ x.vr
       → IsClean y x back out → IsClean y (taking x) left (out ++ u ∷ [])
-  clean_taken u says mild is c =
+  clean_taken u says rejects_none is c =
       let rest = whole_taken x.rejecting x.vr y.vs m (messages ks) is c.arriving in
       record {
         in_7 = c.in_7;
         free = c.free;
         arriving = rest;
-        wanted = rejections_same u out mild ∙ c.wanted;
+        wanted = rejections_same u out rejects_none ∙ c.wanted;
         timed = c.timed;
         stopped =
             λ runs. up_to (x.vr + 1) y.vs u out says

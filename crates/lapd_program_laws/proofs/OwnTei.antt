@@ -23,7 +23,7 @@ use Rattle.lapd_side_events.specs.Interface.{user_behaviour}
 use Rattle.lapd_side_events.specs.SideView.{SideEvent, SideView, reaction, does}
 use Rattle.lapd_program_laws.specs.Transcripts.{own_tei, tei_after}
 use Rattle.lapd_two_side_laws.proofs.LinkOps.{ArePlain, op_acts, op_expires}
-use Rattle.lapd_two_side_laws.proofs.Plain.{pending_aside, plain_removals}
+use Rattle.lapd_two_side_laws.proofs.ReportsNoTei.{pending_aside, plain_removals}
 use Rattle.lapd_two_side_laws.proofs.Reactions.{AnyInput, AnyRequest, HoldsOfEvents, HoldsOfLinks, Law, each_event, each_request, reacts}
 use Rattle.lapd_two_side_laws.proofs.Requests.{by_events, step_at, stepped_by, user_asked}
 

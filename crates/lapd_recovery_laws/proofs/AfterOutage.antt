@@ -40,7 +40,7 @@ use Rattle.lapd_recovery_laws.specs.Timers.{HaveTimersOfStates}
 use Rattle.lapd_recovery_laws.specs.WantedLine.{IsWanting, AreWanting}
 use Rattle.lapd_recovery_laws.proofs.AnyOrder.{Draining, rests_still, rests_drained}
 use Rattle.lapd_recovery_laws.proofs.Cleared.{AreClearIn5, clear_after_move, clear_after_run, new_is_clear}
-use Rattle.lapd_recovery_laws.proofs.Lone.{expires_203_at, due_203, still_swapped, own_203_swapped}
+use Rattle.lapd_recovery_laws.proofs.PeerReleased.{expires_203_at, due_203, still_swapped, own_203_swapped}
 use Rattle.lapd_recovery_laws.proofs.Lost.{at, with_final, UserLost}
 use Rattle.lapd_recovery_laws.proofs.LostMoves.{moved_user, moved_network}
 use Rattle.lapd_recovery_laws.proofs.OpenLine.{tries_so, draining_begins, up_so}

@@ -215,7 +215,7 @@ not_apart last n x y d have due =
     let off = neither_on x.end.t200 y.end.t200 both.0 in
     let in_7 = together last n x y d have off.0 off.1 in
     let apart : are_apart (at x y [] []) ≡ true = both.1 in
-    let never : are_apart (at x y [] []) ≡ false = rw (in_7.0, in_7.1) refl in
+    let impossible : are_apart (at x y [] []) ≡ false = rw (in_7.0, in_7.1) refl in
     cc
 
 pub ok_in_world : (s : Side) (w : World) (o : Result ViewStep Refusal)
@@ -241,7 +241,7 @@ only_if_on s v ok = by_timer v.station.end.t200 refl
   where
     by_timer : (b : Bool) → v.station.end.t200 ≡ b → v.station.end.t200 ≡ true
     by_timer true on = on
-    by_timer false off = let never : false ≡ true = rw off at ok in cc
+    by_timer false off = let impossible : false ≡ true = rw off at ok in cc
 
 pub runs_if_expires : (s : Side) (w : World)
     → is_ok (happens Whole (record { side = s; event = Expire200 }) w) ≡ true
@@ -261,7 +261,7 @@ module _ (last : Bool) (n : ℕ) (x y : Station) where
       → Draining last n (at x y to_user to_network)
       → is_ok (happens Whole (user_move Deliver) (at x y to_user to_network)) ≡ true
       → After side.User Deliver to_user to_network
-  user_own_delivers [] to_network d ok = let never = none_there x y to_network in cc
+  user_own_delivers [] to_network d ok = let impossible = none_there x y to_network in cc
   user_own_delivers (frame ∷ rest) to_network d ok =
       user_receives last n x y frame rest to_network d
 
@@ -269,7 +269,7 @@ module _ (last : Bool) (n : ℕ) (x y : Station) where
       → Draining last n (at x y to_user to_network)
       → is_ok (happens Whole (network_move Deliver) (at x y to_user to_network)) ≡ true
       → After side.Network Deliver to_user to_network
-  network_own_delivers to_user [] d ok = let never = none_there_too x y to_user in cc
+  network_own_delivers to_user [] d ok = let impossible = none_there_too x y to_user in cc
   network_own_delivers to_user (frame ∷ rest) d ok =
       moves_swapped last n Deliver (at x y to_user (frame ∷ rest)) (user_receives last n
       y x frame rest to_user (draining_swapped last n (at x y to_user (frame ∷ rest)) d))
@@ -397,8 +397,8 @@ rests_still x y [] [] rests = record {
 }
   where
     by_timer : (b : Bool) → (b ≡ true → ⊥) → b ≡ false
-    by_timer true never = absurd (never refl)
-    by_timer false never = refl
+    by_timer true impossible = absurd (impossible refl)
+    by_timer false impossible = refl
 
 -- then no end is lost
 pub rests_drained : (last : Bool) (n : ℕ) (w : World) → Draining last n w → HaveTimersOfStates w

@@ -105,10 +105,10 @@ abbrev IsOpenState : StepState → Type 0
 IsOpenState s = is_7_or_8 s.end.state ≡ true
 
 never_5 : (s : StepState) → IsOpenState s → s.end.state ≡ AwaitingEstablishment → ⊥
-never_5 s opened is = let never : is_7_or_8 s.end.state ≡ false = ap is_7_or_8 is in cc
+never_5 s opened is = let impossible : is_7_or_8 s.end.state ≡ false = ap is_7_or_8 is in cc
 
 stays_open : (s : StepState) → IsOpenState s → After s
-stays_open s opened = λ is. let never : is_7_or_8 s.end.state ≡ false = ap is_7_or_8 is in cc
+stays_open s opened = λ is. let impossible : is_7_or_8 s.end.state ≡ false = ap is_7_or_8 is in cc
 
 clear_both : (h : Input) (s : StepState) → IsOpenState s → After (in_7_and_8 h s)
 unfolding each_action each_row

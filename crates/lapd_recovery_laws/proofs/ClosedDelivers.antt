@@ -40,7 +40,7 @@ use Rattle.lapd_recovery_laws.proofs.Cleared.{IsClearIn5, AreClear}
 use Rattle.lapd_recovery_laws.proofs.EndSends.{Unsending, pending_in, pending, end_closes}
 use Rattle.lapd_recovery_laws.proofs.Establishes.{discards_by}
 use Rattle.lapd_recovery_laws.proofs.LoneSteps.{sends_nothing}
-use Rattle.lapd_recovery_laws.proofs.OpenDelivers.{Delivered, heard_in, never}
+use Rattle.lapd_recovery_laws.proofs.OpenDelivers.{Delivered, heard_in, impossible}
 use Rattle.lapd_recovery_laws.proofs.OpenFrames.{unit_kind, asks_closed, reset_arrives}
 use Rattle.lapd_recovery_laws.proofs.Proceeding.{weight_of, weigh, weight_some, plain_of, plain_in, no_number_plain, heard, extra, extra_few, extra_shut, extra_more, extra_first, extra_passed, Arrives, Hears, in_transit_of_whole, none_rejected, missing_in, missing, load_in, load, load_open, load_less, load_closed, load_least, once_more, none_more, fresh_few, Share, Pays}
 use Rattle.lapd_recovery_laws.proofs.HalfSteps.{refused_line}
@@ -85,9 +85,10 @@ module _ (station peer : Station) (frame : Flight) (rest outgoing : List Flight)
       closes : end_step Whole t ≡ t
       new : List Flight
       sent : (story c t).line ≡ outgoing ++ new
-      paid : load t.end peer.end (out ++ kinds new) + weigh (kinds new) + 1 ≤ load e peer.end out
+      work_falls : load t.end peer.end (out ++ kinds new) + weigh (kinds new) + 1 ≤ load e peer.end
+          out
           + weight_of k
-      mild : rejections (kinds new) ≡ []
+      rejects_none : rejections (kinds new) ≡ []
       its_load : load peer.end t.end ks + 0 ≤ load peer.end e (k ∷ ks)
       lacks : peer.end.state ≡ MultipleFrameEstablished
           → missing peer.end t.end ≤ missing peer.end e
@@ -101,13 +102,13 @@ module _ (station peer : Station) (frame : Flight) (rest outgoing : List Flight)
         → load x peer.end (out ++ kinds new) + weigh (kinds new) + 1 ≤ load e peer.end out
         + weight_of k → (n : ℕ) → Share e peer.end out (k ∷ ks) n
         → Pays x peer.end (out ++ kinds new) ks (n + weight_of k + 0 - weigh (kinds new))
-    pays k x new paid n (inl enough) = record {
+    pays k x new work_falls n (inl enough) = record {
       a = load x peer.end (out ++ kinds new);
       share = inl (omega arith);
-      most = omega (arith, paid, enough);
+      most = omega (arith, work_falls, enough);
     }
-    pays k x new paid n (inr p) =
-        let is = p.0.in_7 in never (is_7_or_8 e.state) (ap is_7_or_8 is) closed
+    pays k x new work_falls n (inr p) =
+        let is = p.0.in_7 in impossible (is_7_or_8 e.state) (ap is_7_or_8 is) closed
 
     by_closing : (k : Kind) (t : StepState) → Closing k t → Done k t
     by_closing k t r =
@@ -117,13 +118,13 @@ module _ (station peer : Station) (frame : Flight) (rest outgoing : List Flight)
           sent = r.sent;
           advances = record {
             relief = 0;
-            mine = λ n share. pays k t.end r.new r.paid n share;
+            mine = λ n share. pays k t.end r.new r.work_falls n share;
             its_load = r.its_load;
             its =
                 λ p. (
                   record {
                     in_7 = p.in_7;
-                    wanted = none_rejected out (kinds r.new) p.wanted r.mild;
+                    wanted = none_rejected out (kinds r.new) p.wanted r.rejects_none;
                     hears = inr (by_hearing p.in_7 p.hears);
                   },
                   let less = r.lacks p.in_7 in omega (arith, less),
@@ -135,7 +136,7 @@ module _ (station peer : Station) (frame : Flight) (rest outgoing : List Flight)
       where
         by_hearing : peer.end.state ≡ MultipleFrameEstablished → Hears peer.end.window.vs e (k ∷ ks)
             → OnReception (Arrives peer.end.window.vs) (heard t.end ks)
-        by_hearing is (inl busy) = never (is_7_or_8 e.state) busy.0 closed
+        by_hearing is (inl busy) = impossible (is_7_or_8 e.state) busy.0 closed
         by_hearing is (inr a) = r.hears is a
 
     same_end : s.end ≡ e
@@ -177,12 +178,12 @@ module _ (station peer : Station) (frame : Flight) (rest outgoing : List Flight)
       closes = closes_nothing t (ap (λ (x : End). is_7_or_8 x.state) same ∙ closed);
       new = [];
       sent = none ∙ sym (append-nil outgoing);
-      paid =
+      work_falls =
           let b : load t.end peer.end (out ++ []) ≡ load e peer.end out =
           ap (λ (x : End). load x peer.end (out ++ [])) same
           ∙ ap (λ l. load e peer.end l) (append-nil out) in
           omega (arith, b, some);
-      mild = refl;
+      rejects_none = refl;
       its_load =
           still_loaded k t.end (ap (λ (x : End). is_7_or_8 x.state) same ∙ closed)
           (ap (λ (x : End). x.window.rejecting) same) (let a : extra t.end ks ≡ extra e
@@ -199,7 +200,8 @@ module _ (station peer : Station) (frame : Flight) (rest outgoing : List Flight)
       fewer =
           let w : waiting t.end ≡ waiting e = ap (λ (x : End). waiting x) same in omega (arith, w);
       free =
-          λ o. never (is_7_or_8 t.end.state) o (ap (λ (x : End). is_7_or_8 x.state) same ∙ closed);
+          λ o. impossible (is_7_or_8 t.end.state) o (ap (λ (x : End). is_7_or_8 x.state) same ∙
+          closed);
     })
 
     ignored : (k : Kind) → 1 ≤ weight_of k
@@ -244,25 +246,25 @@ module _ (station peer : Station) (frame : Flight) (rest outgoing : List Flight)
           → extra peer.end (out ++ kinds (without_info Answer u ∷ [])) ≤ extra peer.end out
           → Done Asks (put (Send Answer u) s)
       unfolding put begin story_after
-      replies u one mild less = by_closing Asks (put (Send Answer u) s) (record {
+      replies u one rejects_none less = by_closing Asks (put (Send Answer u) s) (record {
         closes = closes_nothing (put (Send Answer u) s) closed;
         new = without_info Answer u ∷ [];
         sent = refl;
-        paid =
+        work_falls =
             let le =
             load_closed e.state e.release_pending (unsent e) (missing e peer.end)
             (fresh peer.end.window.rejecting) (extra peer.end out) (missing e peer.end)
             (fresh peer.end.window.rejecting)
             (extra peer.end (out ++ kinds (without_info Answer u ∷ []))) closed less in
             omega (arith, one, le);
-        mild = mild;
+        rejects_none = rejects_none;
         its_load =
             still_loaded Asks e closed refl
             (let same = extra_passed e Asks ks closed (λ in_5. refl) in omega (arith, same));
         lacks = λ is. omega arith;
         hears = λ is a. absurd (asks_not_in_7 is);
         fewer = omega arith;
-        free = λ o. never (is_7_or_8 e.state) o closed;
+        free = λ o. impossible (is_7_or_8 e.state) o closed;
       })
 
       by_ua : Done Asks (put (Send Answer (Ua true)) s)
@@ -368,23 +370,24 @@ module _ (station peer : Station) (frame : Flight) (rest outgoing : List Flight)
         → t.end.window.rejecting ≡ e.window.rejecting
         → load t.end peer.end (out ++ kinds new) + weigh (kinds new) + 1 ≤ load e peer.end out
         + weight_of k → waiting t.end ≤ waiting e → Done k t
-    parts k t state new at shut other sent mild rejecting paid fewer = by_closing k t (record {
-      closes = closes_nothing t (ap is_7_or_8 at ∙ shut);
-      new = new;
-      sent = sent;
-      paid = paid;
-      mild = mild;
-      its_load =
-          still_loaded k t.end (ap is_7_or_8 at ∙ shut) rejecting
-          (let none =
-          extra_shut t.end ks (ap is_7_or_8 at ∙ shut)
-          (λ in_5. other (sym at ∙ in_5)) in
-          omega (arith, none));
-      lacks = λ is. let lack = still_missing t.end (ap is_7_or_8 at ∙ shut) in omega (arith, lack);
-      hears = λ is a. nothing t.end state at shut other;
-      fewer = fewer;
-      free = λ o. never (is_7_or_8 t.end.state) o (ap is_7_or_8 at ∙ shut);
-    })
+    parts k t state new at shut other sent rejects_none rejecting work_falls fewer =
+        by_closing k t (record {
+          closes = closes_nothing t (ap is_7_or_8 at ∙ shut);
+          new = new;
+          sent = sent;
+          work_falls = work_falls;
+          rejects_none = rejects_none;
+          its_load =
+              still_loaded k t.end (ap is_7_or_8 at ∙ shut) rejecting
+              (let none =
+              extra_shut t.end ks (ap is_7_or_8 at ∙ shut)
+              (λ in_5. other (sym at ∙ in_5)) in
+              omega (arith, none));
+          lacks = λ is. let lack = still_missing t.end (ap is_7_or_8 at ∙ shut) in omega (arith, lack);
+          hears = λ is a. nothing t.end state at shut other;
+          fewer = fewer;
+          free = λ o. impossible (is_7_or_8 t.end.state) o (ap is_7_or_8 at ∙ shut);
+        })
       where
         nothing : (x : End) (state : State) → x.state ≡ state → is_7_or_8 state ≡ false
             → (state ≡ AwaitingEstablishment → ⊥)
@@ -598,7 +601,7 @@ module _ (station peer : Station) (frame : Flight) (rest outgoing : List Flight)
                     λ p. (
                       record {
                         in_7 = p.in_7;
-                        wanted = none_rejected out (kinds cl.frames) p.wanted cl.mild;
+                        wanted = none_rejected out (kinds cl.frames) p.wanted cl.rejects_none;
                         hears = inr (by_hearing u.end in_7 vr p.hears);
                       },
                       let less = less_missing u.end in_7 vr (ap is_7_or_8 p.in_7) in
@@ -652,7 +655,7 @@ module _ (station peer : Station) (frame : Flight) (rest outgoing : List Flight)
             by_hearing : (x : End) → x.state ≡ MultipleFrameEstablished → x.window.vr ≡ 0
                 → Hears peer.end.window.vs e (Accepts ∷ ks)
                 → OnReception (Arrives peer.end.window.vs) (heard x ks)
-            by_hearing x in_7 vr (inl busy) = never (is_7_or_8 e.state) busy.0 closed
+            by_hearing x in_7 vr (inl busy) = impossible (is_7_or_8 e.state) busy.0 closed
             by_hearing x in_7 vr (inr a) =
                 let whole : IsWhole 0 peer.end.window.vs (messages ks) =
                 behind_ua (Arrives peer.end.window.vs) a in

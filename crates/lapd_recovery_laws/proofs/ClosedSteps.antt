@@ -19,7 +19,7 @@ use Rattle.lapd_pair_laws.specs.Move.{Deliver, Expire200, Station, View, ViewSte
 use Rattle.lapd_pair_laws.proofs.ClosedActions.{closes_nothing}
 use Rattle.lapd_pair_laws.proofs.Lists.{by_test}
 use Rattle.lapd_pair_laws.proofs.Worlds.{left_by}
-use Rattle.lapd_recovery_laws.proofs.Beside.{seeing}
+use Rattle.lapd_recovery_laws.proofs.OneMoreFrame.{seeing}
 use Rattle.lapd_link_definition.proofs.ComputedStep.{each_change, each_row}
 
 -- ---- The view of a side after a step with these outputs.

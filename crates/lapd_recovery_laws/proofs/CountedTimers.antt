@@ -173,7 +173,7 @@ module _ (N l most : ℕ) (Weight : ℕ → World → Type 0)
       (record { keeps = b.keeps; phase = b.phase }) rest
   first n s Expire200 w moves k one rest = expires_200 n s w moves k one.admitted rest
   first n s Expire203 w moves k one rest = expires_203 n s w moves k one.admitted rest
-  first n s event w moves k one rest = let never = one.of_line in cc
+  first n s event w moves k one rest = let impossible = one.of_line in cc
 
   comes : (moves : List Move) (n : ℕ) (w : World) → Within n w → AreLineMoves Whole moves w
       → Comes n w moves

@@ -45,7 +45,7 @@ use Rattle.lapd_pair_laws.proofs.Stepping.{user_move}
 use Rattle.lapd_pair_laws.proofs.Swaps.{network_alike}
 use Rattle.lapd_pair_laws.proofs.Whole.{each_move_preserves, each_run_preserves}
 use Rattle.lapd_pair_laws.proofs.Worlds.{new_holds, left_by, exchanged}
-use Rattle.lapd_recovery_laws.proofs.Beside.{seeing}
+use Rattle.lapd_recovery_laws.proofs.OneMoreFrame.{seeing}
 use Rattle.lapd_recovery_laws.proofs.EndSends.{Unsending, end_closes}
 use Rattle.lapd_recovery_laws.proofs.LostMoves.{moved_user}
 use Rattle.lapd_recovery_laws.proofs.OpenFrames.{never_5}
@@ -168,7 +168,7 @@ is_frame (Faulty kind) = true
 is_frame input = false
 
 stays_open : (s : StepState) → is_7_or_8 s.end.state ≡ true → After s
-stays_open s opened = λ is. let never : is_7_or_8 s.end.state ≡ false = ap is_7_or_8 is in cc
+stays_open s opened = λ is. let impossible : is_7_or_8 s.end.state ≡ false = ap is_7_or_8 is in cc
 
 from_7_and_8 : (h : Input) (s : StepState) → is_frame h ≡ false → is_7_or_8 s.end.state ≡ true
     → IsCalmStep s → After (in_7_and_8 h s)
@@ -231,8 +231,8 @@ from_fault MultipleFrameEstablished kind s closed calm = cc
 from_fault TimerRecovery kind s closed calm = cc
 
 closed_if : (b : Bool) → (b ≡ true → true ≡ false) → b ≡ false
-closed_if true never = never refl
-closed_if false never = refl
+closed_if true impossible = impossible refl
+closed_if false impossible = refl
 
 from_row : (state : State) (h : Input) (s : StepState) → s.end.state ≡ state
     → IsNoFrameIfOpen state h → IsCalmStep s → After (row Whole state h s)
@@ -425,7 +425,7 @@ module _ (x y : Station) (base its_base : ℕ) (frame : Flight) (rest outgoing :
   unfolding acts delivers receives step
   delivered_closed closed was =
       by_step (seeing x rest outgoing) frame.info frame.place (Heard frame.control frame.role)
-      (λ opened. absurd (let never = opened in not_both (is_7_or_8 x.end.state) closed opened))
+      (λ opened. absurd (let impossible = opened in not_both (is_7_or_8 x.end.state) closed opened))
       (before_6 x y base its_base (frame ∷ rest) outgoing settled both (λ is. was is)) rest
       (λ is. was is)
 

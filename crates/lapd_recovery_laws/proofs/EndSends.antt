@@ -64,7 +64,7 @@ pub record Closes (c : Context) (s t : StepState) : Type 0 where
   pub frames : List Flight
   pub line : (story c t).line ≡ (story c s).line ++ frames
   pub whole : IsWhole s.end.window.vs t.end.window.vs (messages (kinds frames))
-  pub mild : rejections (kinds frames) ≡ []
+  pub rejects_none : rejections (kinds frames) ≡ []
   pub no_answer : tally answer_of (kinds frames) ≡ 0
   pub sent : ℕ
   pub fewer : unsent t.end + sent ≡ unsent s.end
@@ -79,7 +79,7 @@ closes_none c s = record {
   frames = [];
   line = sym (append-nil (story c s).line);
   whole = refl;
-  mild = refl;
+  rejects_none = refl;
   no_answer = refl;
   sent = 0;
   fewer = omega arith;
@@ -101,7 +101,8 @@ then_closes {c = c} {s = s} {t = t} {u = u} a b =
           subst (λ ks. IsWhole s.end.window.vs u.end.window.vs (messages ks)) (sym both)
           (whole_joined s.end.window.vs t.end.window.vs u.end.window.vs (kinds a.frames)
           (kinds b.frames) a.whole b.whole);
-      mild = ap rejections both ∙ none_rejected (kinds a.frames) (kinds b.frames) a.mild b.mild;
+      rejects_none = ap rejections both ∙ none_rejected (kinds a.frames) (kinds b.frames)
+          a.rejects_none b.rejects_none;
       no_answer =
           ap (λ ks. tally answer_of ks) both
           ∙ (let sum = tally_append answer_of (kinds a.frames) (kinds b.frames) in
@@ -141,7 +142,7 @@ closes_next c s go =
       frames = next_sent c s ∷ [];
       line = (ensure_puts c (transmit_i_frame Whole s)).line ∙ (next_puts c s).line;
       whole = (refl, refl);
-      mild = refl;
+      rejects_none = refl;
       no_answer = refl;
       sent = 1;
       fewer = omega (arith, free);
@@ -163,7 +164,7 @@ closes_rr c s on = record {
   frames = without_info Answer (Rr s.end.window.vr false) ∷ [];
   line = (rr_puts c s).line;
   whole = refl;
-  mild = refl;
+  rejects_none = refl;
   no_answer = refl;
   sent = 0;
   fewer = omega arith;

@@ -19,15 +19,15 @@ use Rattle.lapd_pair_laws.specs.Kinds.{kinds}
 use Rattle.lapd_pair_laws.specs.Move.{Deliver, Station, View, acts, receives, delivers, view_after, story_after}
 use Rattle.lapd_pair_laws.specs.Timed.{IsClosed}
 use Rattle.lapd_pair_laws.proofs.ActionEffects.{Context, story}
-use Rattle.lapd_pair_laws.proofs.Draws.{with_pending, AreReady, Draws}
-use Rattle.lapd_pair_laws.proofs.DrawCloses.{draws_close}
+use Rattle.lapd_pair_laws.proofs.WorkOfActions.{with_pending, AreReady, Draws}
+use Rattle.lapd_pair_laws.proofs.WorkOfClosing.{draws_close}
 use Rattle.lapd_pair_laws.proofs.Drains.{Seen, mine_open, after_step}
 use Rattle.lapd_pair_laws.proofs.Flow.{Source, Sink, source, sink, Clean, IsInTransit, Stream, Flow}
 use Rattle.lapd_pair_laws.proofs.Lists.{by_test}
 use Rattle.lapd_pair_laws.proofs.SettledEnds.{closed_step}
 use Rattle.lapd_pair_laws.proofs.Steps.{context}
 use Rattle.lapd_pair_laws.proofs.Worlds.{left_by}
-use Rattle.lapd_recovery_laws.proofs.Beside.{seeing}
+use Rattle.lapd_recovery_laws.proofs.OneMoreFrame.{seeing}
 use Rattle.lapd_recovery_laws.proofs.LoneSteps.{AsksItself, IsNew, ua, sends_nothing}
 
 -- ---- Messages of the last establishment are dropped, if any is outstanding.

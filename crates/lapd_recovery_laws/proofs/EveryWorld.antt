@@ -25,7 +25,7 @@ use Rattle.lapd_pair_laws.proofs.Reached.{reached_tags}
 use Rattle.lapd_pair_laws.proofs.TaggedMoves.{left_on_tags}
 use Rattle.lapd_pair_laws.proofs.Whole.{each_run_preserves}
 use Rattle.lapd_pair_laws.proofs.Settles.{in_7}
-use Rattle.lapd_pair_laws.proofs.Speaks.{in_transit_none}
+use Rattle.lapd_pair_laws.proofs.SenderStream.{in_transit_none}
 use Rattle.lapd_recovery_laws.specs.Agreed.{AreAgreed}
 use Rattle.lapd_recovery_laws.specs.EveryWorld.{IsFreeWorld, WorldComesBack}
 use Rattle.lapd_recovery_laws.specs.Deliveries.{most_deliveries}

@@ -17,7 +17,7 @@ use Rattle.lapd_pair_laws.specs.Timed.{IsTimedIn, IsSettledEnd, AreSettledEnds}
 use Rattle.lapd_pair_laws.specs.World.{World}
 use Rattle.lapd_pair_laws.proofs.Drains.{Drains}
 use Rattle.lapd_pair_laws.proofs.Worlds.{left_by}
-use Rattle.lapd_recovery_laws.proofs.Beside.{seeing}
+use Rattle.lapd_recovery_laws.proofs.OneMoreFrame.{seeing}
 use Rattle.lapd_recovery_laws.proofs.Cleared.{AreClear}
 use Rattle.lapd_recovery_laws.proofs.ClosedSteps.{Sees, seen_after_frame, disc_in_4, disc_in_6, ua_in_6, dm_in_6, released}
 use Rattle.lapd_recovery_laws.proofs.HalfSteps.{dm, disc, sabme_in_5, disc_in_5, dm_in_5, ua_in_5, abandoned, leaving, sabme_in_6, ignored_if_closed, disconnected, disc_in_7_8}

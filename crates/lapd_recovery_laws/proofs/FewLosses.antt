@@ -39,12 +39,12 @@ use Rattle.lapd_recovery_laws.specs.Own.{are_apart, is_line_empty, is_due, IsOwn
 use Rattle.lapd_recovery_laws.specs.Timers.{HaveTimersOfStates}
 use Rattle.lapd_recovery_laws.proofs.AfterOutage.{same_parameters, facts_after, free_by_tags}
 use Rattle.lapd_recovery_laws.proofs.AnyOrder.{Draining, none_there, none_there_too, own_moves_on}
-use Rattle.lapd_recovery_laws.proofs.Beside.{seeing}
+use Rattle.lapd_recovery_laws.proofs.OneMoreFrame.{seeing}
 use Rattle.lapd_recovery_laws.proofs.CountedMoves.{after, Keeps, IsWeight, moves_counted}
 use Rattle.lapd_recovery_laws.proofs.DespiteLosses.{despite_losses, own_or_losses_by_tags}
 use Rattle.lapd_recovery_laws.proofs.EveryWorld.{drains_at}
 use Rattle.lapd_recovery_laws.proofs.LosesFrame.{user_loses}
-use Rattle.lapd_recovery_laws.proofs.Lone.{t200_runs, ok_of_side, last_of}
+use Rattle.lapd_recovery_laws.proofs.PeerReleased.{t200_runs, ok_of_side, last_of}
 use Rattle.lapd_recovery_laws.proofs.LoneSteps.{Polls, polls_by_t200, polls_again}
 use Rattle.lapd_recovery_laws.proofs.Lost.{at}
 use Rattle.lapd_recovery_laws.proofs.LostMoves.{moved_user}
@@ -283,7 +283,7 @@ never_203 b w l have due =
         network_off w.user.end.t200 w.network.end.t200 off
         (timers_in TimerRecovery w.network.end have.network its_is).0
     by_states MultipleFrameEstablished MultipleFrameEstablished is its_is o p =
-        let never : are_apart w ≡ false = rw (is, its_is) refl in let yes_ = apart in cc
+        let impossible : are_apart w ≡ false = rw (is, its_is) refl in let yes_ = apart in cc
     by_states one other is its_is o p = cc
 
 -- ---- A frame is lost.

@@ -49,11 +49,11 @@ use Rattle.lapd_recovery_laws.specs.Own.{is_due, IsOwn}
 use Rattle.lapd_recovery_laws.specs.Timers.{HaveTimersOfStates}
 use Rattle.lapd_recovery_laws.proofs.AfterOutage.{facts_after, Returns}
 use Rattle.lapd_recovery_laws.proofs.AnyOrder.{none_there, none_there_too}
-use Rattle.lapd_recovery_laws.proofs.Beside.{seeing}
+use Rattle.lapd_recovery_laws.proofs.OneMoreFrame.{seeing}
 use Rattle.lapd_recovery_laws.proofs.CountedMoves.{after}
 use Rattle.lapd_recovery_laws.proofs.EndSends.{kinds_append, stops_full}
 use Rattle.lapd_recovery_laws.proofs.FewLosses.{IsOpen, stays_open}
-use Rattle.lapd_recovery_laws.proofs.Lone.{t200_runs, t203_runs, ok_of_side}
+use Rattle.lapd_recovery_laws.proofs.PeerReleased.{t200_runs, t203_runs, ok_of_side}
 use Rattle.lapd_recovery_laws.proofs.LoneSteps.{Polls, closes_in_8, polls_by_t200}
 use Rattle.lapd_recovery_laws.proofs.Lost.{at}
 use Rattle.lapd_recovery_laws.proofs.LostMoves.{moved_user}
@@ -574,14 +574,14 @@ module _ (N : ℕ) where
           open_state = ap is_7_or_8 in_7;
           none = omega (arith, none, waits);
           polled =
-              λ in_8. let never : MultipleFrameEstablished ≡ TimerRecovery =
+              λ in_8. let impossible : MultipleFrameEstablished ≡ TimerRecovery =
               sym in_7 ∙ in_8 in cc;
         };
         network = record {
           open_state = ap is_7_or_8 its_in_7;
           none = omega (arith, none, waits);
           polled =
-              λ in_8. let never : MultipleFrameEstablished ≡ TimerRecovery =
+              λ in_8. let impossible : MultipleFrameEstablished ≡ TimerRecovery =
               sym its_in_7 ∙ in_8 in cc;
         };
       }

@@ -40,7 +40,7 @@ use Rattle.lapd_pair_laws.proofs.Worlds.{left_by}
 use Rattle.lapd_recovery_laws.specs.AfterOutage.{IsKept}
 use Rattle.lapd_recovery_laws.specs.WantedLine.{IsWanting, AreWanting, is_dm, NoneRefused, IsWanted}
 use Rattle.lapd_recovery_laws.proofs.AnyOrder.{none_there, none_there_too}
-use Rattle.lapd_recovery_laws.proofs.Beside.{seeing}
+use Rattle.lapd_recovery_laws.proofs.OneMoreFrame.{seeing}
 use Rattle.lapd_recovery_laws.proofs.ClosedInputs.{opened_line}
 use Rattle.lapd_recovery_laws.proofs.DiscSent.{is_disc, NoDisc}
 use Rattle.lapd_recovery_laws.proofs.EndSends.{Unsending, kinds_append, end_closes}
@@ -151,13 +151,13 @@ calm_request control role info place calm = by_request (requested control role i
         → IsSabme control role ⊎ (ask_of (kind_of role control info place) ≡ 0)
     by_request (inl sabme) = inl sabme
     by_request (inr (inl is)) =
-        absurd (let never : is_release control ≡ true = ap is_release is.0 in cc)
+        absurd (let impossible : is_release control ≡ true = ap is_release is.0 in cc)
     by_request (inr (inr none)) = inr none
 
 open_is_kept : (e : End) → is_7_or_8 e.state ≡ true → IsKept e
 open_is_kept e opened = record {
-  not_releasing = λ in_6. let never : is_7_or_8 e.state ≡ false = ap is_7_or_8 in_6 in cc;
-  none_pending = λ in_5. let never : is_7_or_8 e.state ≡ false = ap is_7_or_8 in_5 in cc;
+  not_releasing = λ in_6. let impossible : is_7_or_8 e.state ≡ false = ap is_7_or_8 in_6 in cc;
+  none_pending = λ in_5. let impossible : is_7_or_8 e.state ≡ false = ap is_7_or_8 in_5 in cc;
 }
 
 -- ---- A frame is delivered.

@@ -1,7 +1,7 @@
 pub mod AfterOutage
 pub mod AgreementAfterRuns
 pub mod AnyOrder
-pub mod Beside
+pub mod OneMoreFrame
 pub mod Cleared
 pub mod ClosedDelivers
 pub mod ClosedInputs
@@ -21,7 +21,7 @@ pub mod KeepsAgreement
 pub mod KeepsWanted
 pub mod KeptNumbers
 pub mod KeptOnTags
-pub mod Lone
+pub mod PeerReleased
 pub mod LoneAfterRuns
 pub mod LoneSteps
 pub mod LosesFrame

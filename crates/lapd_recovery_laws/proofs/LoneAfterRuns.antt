@@ -18,7 +18,7 @@ use Rattle.lapd_pair_laws.proofs.Worlds.{new_holds}
 use Rattle.lapd_pair_laws.proofs.DrainsAfterRuns.{unmapped}
 use Rattle.lapd_recovery_laws.specs.LoneLine.{IsLone, IsLoneLine, most_lone_moves, IsUpAnew, ComesUpAnew}
 use Rattle.lapd_recovery_laws.specs.Own.{Rests}
-use Rattle.lapd_recovery_laws.proofs.Lone.{lone_line_comes_up}
+use Rattle.lapd_recovery_laws.proofs.PeerReleased.{lone_line_comes_up}
 use Rattle.lapd_recovery_laws.proofs.OwnOnTags.{are_own_by_tags, rests_by_tags, ran_on_tags, are_level_on_tags, agreed_on_tags}
 use Rattle.lapd_recovery_laws.proofs.TimersOfRuns.{new_has_timers, timers_after_run}
 

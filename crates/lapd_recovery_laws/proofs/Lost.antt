@@ -16,13 +16,13 @@ use Rattle.lapd_pair_laws.specs.Conjuncts.{IsGot, AreAsked, IsReceivable, high}
 use Rattle.lapd_pair_laws.specs.Invariant.{Both, IsInvariant}
 use Rattle.lapd_pair_laws.specs.Timed.{AreSettledEnds}
 use Rattle.lapd_pair_laws.proofs.ActionEffects.{kinds_more}
-use Rattle.lapd_pair_laws.proofs.Draws.{AreReady, ready_more}
+use Rattle.lapd_pair_laws.proofs.WorkOfActions.{AreReady, ready_more}
 use Rattle.lapd_pair_laws.proofs.Drains.{Drains}
 use Rattle.lapd_pair_laws.proofs.Flow.{source, sink, Answered, burden, Stream, Flow}
 use Rattle.lapd_pair_laws.proofs.Lists.{messages_same, tally_more}
 use Rattle.lapd_pair_laws.proofs.MidSteps.{Mid, enter, leave, got_where_received}
 use Rattle.lapd_pair_laws.proofs.Receptions.{open_receives, from_open, on_map, on_both}
-use Rattle.lapd_pair_laws.proofs.Speaks as speaks
+use Rattle.lapd_pair_laws.proofs.SenderStream as speaks
 use Rattle.lapd_pair_laws.proofs.SupervisoryFrames.{sends_supervisory, acks_sent, rejected_sent, asked_received, finals_more}
 
 -- ---- One more final of y.

@@ -16,11 +16,11 @@ use Rattle.lapd_pair_laws.proofs.Flow.{Sink, source, sink, Stage, Clean, Waiting
 use Rattle.lapd_pair_laws.proofs.Lists.{by_test}
 use Rattle.lapd_pair_laws.proofs.SettledEnds.{move_settles}
 use Rattle.lapd_pair_laws.proofs.Settles.{SameDropped}
-use Rattle.lapd_pair_laws.proofs.Speaks as speaks
+use Rattle.lapd_pair_laws.proofs.SenderStream as speaks
 use Rattle.lapd_pair_laws.proofs.Stepping.{user_move, network_move}
 use Rattle.lapd_pair_laws.proofs.Whole.{each_move_preserves}
 use Rattle.lapd_pair_laws.proofs.Worlds.{left_by, exchanged}
-use Rattle.lapd_recovery_laws.proofs.Beside.{seeing}
+use Rattle.lapd_recovery_laws.proofs.OneMoreFrame.{seeing}
 use Rattle.lapd_recovery_laws.proofs.Lost.{at, UserLost, kinds_length, lost_so}
 use Rattle.lapd_recovery_laws.proofs.LostMoves.{moved_user, moved_network, seen_by_network, asked_of, weight_in_8}
 use Rattle.lapd_recovery_laws.proofs.Retry.{Retries, seen_retried, preserved_retried}

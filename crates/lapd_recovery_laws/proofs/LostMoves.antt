@@ -17,7 +17,7 @@ use Rattle.lapd_pair_laws.specs.Parties.{party, frames_received}
 use Rattle.lapd_pair_laws.specs.Conjuncts.{OneAsked}
 use Rattle.lapd_pair_laws.specs.Invariant.{IsInvariant}
 use Rattle.lapd_pair_laws.specs.Timed.{AreSettledEnds}
-use Rattle.lapd_pair_laws.proofs.Draws.{AreReady}
+use Rattle.lapd_pair_laws.proofs.WorkOfActions.{AreReady}
 use Rattle.lapd_pair_laws.proofs.Drains.{Seen, Drains, drains_swapped, seen_delivered, preserved_delivered, mine_open}
 use Rattle.lapd_pair_laws.proofs.Flow.{Source, Sink, source, sink, Stage, Clean, Waiting, Polling, Answered, IsAt, burden, weight, Stream}
 use Rattle.lapd_pair_laws.proofs.GoingBack.{none_asked_in_7, asked_in_8}
@@ -27,12 +27,12 @@ use Rattle.lapd_pair_laws.proofs.Moves.{after_by_user}
 use Rattle.lapd_pair_laws.proofs.Receptions.{open_receives}
 use Rattle.lapd_pair_laws.proofs.SettledEnds.{move_settles}
 use Rattle.lapd_pair_laws.proofs.Settles.{SameDropped}
-use Rattle.lapd_pair_laws.proofs.Speaks as speaks
+use Rattle.lapd_pair_laws.proofs.SenderStream as speaks
 use Rattle.lapd_pair_laws.proofs.Stepping.{user_move, network_move}
 use Rattle.lapd_pair_laws.proofs.Swaps.{network_alike}
 use Rattle.lapd_pair_laws.proofs.Whole.{each_move_preserves}
 use Rattle.lapd_pair_laws.proofs.Worlds.{left_by}
-use Rattle.lapd_recovery_laws.proofs.Beside.{messages_beside, tally_beside, ready_beside, length_beside, ViewsBeside, seeing, delivered_beside}
+use Rattle.lapd_recovery_laws.proofs.OneMoreFrame.{messages_beside, tally_beside, ready_beside, length_beside, ViewsBeside, seeing, delivered_beside}
 use Rattle.lapd_recovery_laws.proofs.Lost.{final_of_peer, at, with_final, UserLost, LostParts, final_kinds, kinds_length, lost_so}
 use Rattle.lapd_recovery_laws.proofs.RetriesLeft.{same_rc}
 

@@ -86,9 +86,9 @@ heard_in Q e ks opened q = by_case e.state opened
     by_case AwaitingEstablishment o = cc
     by_case AwaitingRelease o = cc
 
-pub never : {A : Type 0} (b : Bool) → b ≡ true → b ≡ false → A
-never true on off = cc
-never false on off = cc
+pub impossible : {A : Type 0} (b : Bool) → b ≡ true → b ≡ false → A
+impossible true on off = cc
+impossible false on off = cc
 
 rest_wanted : (k : Kind) (ks : List Kind) → rejections (k ∷ ks) ≡ [] → rejections ks ≡ []
 rest_wanted k ks none = by_first (rejection_of k) none
@@ -192,7 +192,7 @@ module _ (e x y : End) (k : Kind) (ks : List Kind) (outgoing line : List Flight)
       }
 
   none_more : rejections out ≡ [] → rejections new ≡ [] → rejections (out ++ new) ≡ []
-  none_more wanted mild = none_rejected out new wanted mild
+  none_more wanted rejects_none = none_rejected out new wanted rejects_none
 
   -- what y misses
   lacks : Lacks y.window.vs (receiving e) (receiving x) a.relief
@@ -234,7 +234,7 @@ module _ (e x y : End) (k : Kind) (ks : List Kind) (outgoing line : List Flight)
             },
             lacks both.1,
           )
-      by_busy false off (inl busy) = never e.window.own_busy busy.1 off
+      by_busy false off (inl busy) = impossible e.window.own_busy busy.1 off
       by_busy false off (inr there) =
           let all =
           a.idle off y.window.vs ks
@@ -273,9 +273,10 @@ answered_so c k s t outgoing begun r =
     let first : u.end.first ≡ t.end.first = ap (λ (v : Unsending). v.first) cl.same in
     let same_unsent : unsent t.end ≡ unsent s.end =
     ap (λ (v : Sending). length v.given - v.next) r.sending_same in
-    let mild : rejections (kinds r.frames) ≡ [] → rejections (kinds (r.frames ++ cl.frames)) ≡ [] =
+    let rejects_none : rejections (kinds r.frames) ≡ [] → rejections (kinds (r.frames ++ cl.frames))
+    ≡ [] =
     λ none. ap rejections both ∙ none_rejected (kinds r.frames) (kinds cl.frames) none
-    cl.mild in
+    cl.rejects_none in
     record {
       new = r.frames ++ cl.frames;
       sent =
@@ -313,7 +314,7 @@ answered_so c k s t outgoing begun r =
       busy =
           λ on. let two =
           r.busy on in (
-            mild two.0,
+            rejects_none two.0,
             subst (λ (v : Unsending). Lacks c.peer.sends.vs (receiving s.end)
                 (record { vr = v.vr; rejecting = v.rejecting; ack_pending = false }) r.relief)
                 (sym cl.same) two.1,
@@ -323,7 +324,7 @@ answered_so c k s t outgoing begun r =
           let sink : IsInTransit u.end.window.rejecting u.end.window.vr end (messages ks) =
           subst (λ (v : Unsending). IsInTransit v.rejecting v.vr end (messages ks))
           (sym cl.same) three.1 in (
-            mild three.0,
+            rejects_none three.0,
             sink,
             subst (λ (v : Unsending). Lacks c.peer.sends.vs (receiving s.end)
                 (record { vr = v.vr; rejecting = v.rejecting; ack_pending = false }) r.relief)
@@ -502,7 +503,7 @@ module _ (c : Context) (y : End) (k : Kind) (ks : List Kind) (s t : StepState)
   proceeds_by p = (
     record {
       in_7 = p.in_7;
-      wanted = none_rejected (kinds outgoing) (kinds closing.frames) p.wanted closing.mild;
+      wanted = none_rejected (kinds outgoing) (kinds closing.frames) p.wanted closing.rejects_none;
       hears = by_hearing p.hears;
     },
     let same = missing_same in omega (arith, same),

@@ -249,7 +249,9 @@ module _ (station peer : Station) (frame : Flight) (rest outgoing : List Flight)
         record {
           open_state = ap is_7_or_8 state;
           none_dropped = cl.calm.dropped ∙ b.calm.dropped;
-          in_8 = λ is. let never : MultipleFrameEstablished ≡ TimerRecovery = sym state ∙ is in cc;
+          in_8 =
+              λ is. let impossible : MultipleFrameEstablished ≡ TimerRecovery = sym state ∙ is in
+              cc;
           finals = omega (arith, f, none);
           polls = omega (arith, p);
         }
@@ -661,7 +663,7 @@ module _ (station peer : Station) (frame : Flight) (rest outgoing : List Flight)
       where
         not_open : is_7_or_8 (state_after e.state frame.control frame.role) ≡ true → ⊥
         not_open o =
-            let never : is_7_or_8 (state_after e.state frame.control frame.role) ≡ false =
+            let impossible : is_7_or_8 (state_after e.state frame.control frame.role) ≡ false =
             ap is_7_or_8 in_5 in
             cc
 
@@ -673,6 +675,6 @@ module _ (station peer : Station) (frame : Flight) (rest outgoing : List Flight)
             subst (λ control. state_after e.state control frame.role ≡ TeiAssigned) (sym is.0)
             (subst (λ role. state_after e.state (Disc true) role ≡ TeiAssigned) (sym is.1)
             (by_disc_4 e.state opened)) in
-            let never : TeiAssigned ≡ AwaitingEstablishment = sym in_4 ∙ in_5 in
+            let impossible : TeiAssigned ≡ AwaitingEstablishment = sym in_4 ∙ in_5 in
             cc
         by_request (inr (inr none)) = not_open (open_by_request (inr none))

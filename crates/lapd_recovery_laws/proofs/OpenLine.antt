@@ -22,7 +22,7 @@ use Rattle.lapd_pair_laws.proofs.MidSteps.{Mid, enter, numbering}
 use Rattle.lapd_pair_laws.proofs.Settles.{SameDropped, IsStill, Ends, nothing_left, stream_begins, side_left, side_served, in_7}
 use Rattle.lapd_pair_laws.proofs.Stepping.{next_none}
 use Rattle.lapd_pair_laws.proofs.Worlds.{safe_by_invariant, exchanged}
-use Rattle.lapd_pair_laws.proofs.Speaks.{in_transit_none}
+use Rattle.lapd_pair_laws.proofs.SenderStream.{in_transit_none}
 use Rattle.lapd_recovery_laws.specs.Agreed.{IsLevel, AreLevel}
 use Rattle.lapd_recovery_laws.specs.OpenLine.{IsOpenLine, IsUp, ComesUp}
 use Rattle.lapd_recovery_laws.specs.Timers.{HaveTimersOfStates}

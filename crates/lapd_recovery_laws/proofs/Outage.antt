@@ -22,10 +22,10 @@ use Rattle.lapd_pair_laws.proofs.Whole.{each_move_preserves}
 use Rattle.lapd_pair_laws.proofs.Worlds.{left_by}
 use Rattle.lapd_recovery_laws.specs.Own.{are_apart, is_empty, is_line_empty, is_due, IsOwn}
 use Rattle.lapd_recovery_laws.proofs.AnyOrder.{Draining, draining_swapped, MayRetry, own_moves_on, in_state_7}
-use Rattle.lapd_recovery_laws.proofs.Beside.{seeing}
+use Rattle.lapd_recovery_laws.proofs.OneMoreFrame.{seeing}
 use Rattle.lapd_recovery_laws.proofs.ClosedSteps.{Sees, seen_after_t200, retry_in_6, give_up_in_6, released, retried}
 use Rattle.lapd_recovery_laws.proofs.HalfSteps.{dm, disc, retry_in_5, give_up_in_5, asked_again, abandoned}
-use Rattle.lapd_recovery_laws.proofs.Lone.{no_delivery, t200_runs, t203_runs, ok_of_side, due_swapped, last_of, not_apart}
+use Rattle.lapd_recovery_laws.proofs.PeerReleased.{no_delivery, t200_runs, t203_runs, ok_of_side, due_swapped, last_of, not_apart}
 use Rattle.lapd_recovery_laws.proofs.LoneSteps.{sabme, ua, asking, last_try_in_8}
 use Rattle.lapd_recovery_laws.proofs.Lost.{at}
 use Rattle.lapd_recovery_laws.proofs.LostExpires.{stream}
@@ -99,7 +99,7 @@ module _ (N : ℕ) (some_retries : 1 ≤ N) (up : Bool) where
             leaves = 0;
             both =
                 λ in_5 its_in_5. absurd
-                (let never : TeiAssigned ≡ AwaitingEstablishment = sym in_4 ∙ in_5 in cc);
+                (let impossible : TeiAssigned ≡ AwaitingEstablishment = sym in_4 ∙ in_5 in cc);
             most = omega (arith, le, some, none, same, few);
           }) (λ holds. record {
             mine =
@@ -392,7 +392,7 @@ module _ (N : ℕ) (some_retries : 1 ≤ N) (up : Bool) where
     full_user : (to_user to_network : List Flight) (f : Flight) (fs : List Flight)
         → to_user ≡ f ∷ fs → is_line_empty (at x y to_user to_network) ≡ true → ⊥
     full_user to_user to_network f fs is empty =
-        let never : false ≡ true =
+        let impossible : false ≡ true =
         subst (λ l. (is_empty l && is_empty to_network) ≡ true) is empty in
         cc
 
@@ -637,17 +637,19 @@ module _ (N : ℕ) (some_retries : 1 ≤ N) (up : Bool) where
                 most = omega (arith, most, same, bit, none);
               }) (λ _. record {
                 user = ap (λ (e : End). e.release_pending) seen.end;
-                not_6 = λ in_6. let never : is_7_or_8 y.end.state ≡ false = ap is_7_or_8 in_6 in cc;
+                not_6 =
+                    λ in_6. let impossible : is_7_or_8 y.end.state ≡ false = ap is_7_or_8 in_6 in
+                    cc;
                 network =
                     λ in_5. absurd
-                    (let never : is_7_or_8 y.end.state ≡ false = ap is_7_or_8 in_5 in cc);
+                    (let impossible : is_7_or_8 y.end.state ≡ false = ap is_7_or_8 in_5 in cc);
               })));
         }
 
     last_try : Draining true n (at x y [] []) → ComesOn N up n then
     last_try (inl d) =
         let in_7 = in_state_7 (source x.end) (sink y.end) d.sees.flow.a d.sees.flow.mine in
-        absurd (let never : TimerRecovery ≡ MultipleFrameEstablished = sym is ∙ in_7 in cc)
+        absurd (let impossible : TimerRecovery ≡ MultipleFrameEstablished = sym is ∙ in_7 in cc)
     last_try (inr (inl l)) =
         let flow = l.drains.sees.flow in
         let le = flow.most in
@@ -663,7 +665,7 @@ module _ (N : ℕ) (some_retries : 1 ≤ N) (up : Bool) where
     last_try (inr (inr (inl l))) =
         let in_7 =
         in_state_7 (source x.end) (sink y.end) l.drains.sees.flow.b (stream true n y x l) in
-        absurd (let never : TimerRecovery ≡ MultipleFrameEstablished = sym is ∙ in_7 in cc)
+        absurd (let impossible : TimerRecovery ≡ MultipleFrameEstablished = sym is ∙ in_7 in cc)
     last_try (inr (inr (inr l))) =
         let le = l.most in asks (ap is_7_or_8 l.network_in_8) (omega (arith, le))
 
@@ -698,17 +700,19 @@ module _ (N : ℕ) (some_retries : 1 ≤ N) (up : Bool) where
       by_state MultipleFrameEstablished is last =
           from_draining n side.User Expire200 w d
           (λ _ _ in_8. absurd
-          (let never : MultipleFrameEstablished ≡ TimerRecovery = sym is ∙ in_8 in cc)) f own
+          (let impossible : MultipleFrameEstablished ≡ TimerRecovery = sym is ∙ in_8 in cc)) f own
       by_state TeiAssigned is last =
           from_draining n side.User Expire200 w d
-          (λ _ _ in_8. absurd (let never : TeiAssigned ≡ TimerRecovery = sym is ∙ in_8 in cc)) f own
+          (λ _ _ in_8. absurd (let impossible : TeiAssigned ≡ TimerRecovery =
+          sym is ∙ in_8 in cc)) f own
       by_state AwaitingEstablishment is last =
           from_draining n side.User Expire200 w d
           (λ _ _ in_8. absurd
-          (let never : AwaitingEstablishment ≡ TimerRecovery = sym is ∙ in_8 in cc)) f own
+          (let impossible : AwaitingEstablishment ≡ TimerRecovery = sym is ∙ in_8 in cc)) f own
       by_state AwaitingRelease is last =
           from_draining n side.User Expire200 w d
-          (λ _ _ in_8. absurd (let never : AwaitingRelease ≡ TimerRecovery = sym is ∙ in_8 in cc)) f
+          (λ _ _ in_8. absurd (let impossible : AwaitingRelease ≡ TimerRecovery =
+          sym is ∙ in_8 in cc)) f
           own
 
       by_tries : (b : Bool) → tries w.user.end ≡ b → ComesOn N up n (after side.User Expire200 w)

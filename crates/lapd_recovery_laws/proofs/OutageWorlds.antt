@@ -121,9 +121,9 @@ user_ok event w = ok_in_world side.User w (acts Whole side.User event (view_of s
 pub released_is_kept : (e : End) → e.state ≡ TeiAssigned → IsKept e
 released_is_kept e is = record {
   not_releasing =
-      λ in_6. let never : TeiAssigned ≡ AwaitingRelease = sym is ∙ in_6 in cc;
+      λ in_6. let impossible : TeiAssigned ≡ AwaitingRelease = sym is ∙ in_6 in cc;
   none_pending =
-      λ in_5. let never : TeiAssigned ≡ AwaitingEstablishment = sym is ∙ in_5 in cc;
+      λ in_5. let impossible : TeiAssigned ≡ AwaitingEstablishment = sym is ∙ in_5 in cc;
 }
 
 pub turned : {A B : Type 0} → A ⊎ B → B ⊎ A

@@ -87,8 +87,8 @@ module _ (r : Reading) (s : Side) (vs va vr : ℕ) where
   stepped_alike octets place v (Ok t) (Ok u) (inr is) =
       subst (λ n. ActedAlike (stepped octets place v (Ok t))
       (stepped octets place (seen vs va vr v) (Ok n))) (sym is) (refl, same refl)
-  stepped_alike octets place v (Ok t) (Err fault) never = absurd never
-  stepped_alike octets place v (Err fault) (Ok u) never = absurd never
+  stepped_alike octets place v (Ok t) (Err fault) impossible = absurd impossible
+  stepped_alike octets place v (Err fault) (Ok u) impossible = absurd impossible
   stepped_alike octets place v (Err fault) (Err other) is = ap (λ f. Refused f) is
 
   takes_alike : (what : Input) (octets : List ℕ) (v : View) → reads v.station.end ≡ false
@@ -218,8 +218,8 @@ in_worlds : (s : Side) (w u : World) (x y : Result ViewStep Refusal) → WorldAl
     → ActedAlike x y → HappenedAlike (in_world s w x) (in_world s u y)
 in_worlds s w u (Ok a) (Ok b) alike acted =
     (acted.0, with_views s w u a.view b.view alike (parts_of a.view b.view acted.1))
-in_worlds s w u (Ok a) (Err refusal) alike never = absurd never
-in_worlds s w u (Err refusal) (Ok b) alike never = absurd never
+in_worlds s w u (Ok a) (Err refusal) alike impossible = absurd impossible
+in_worlds s w u (Err refusal) (Ok b) alike impossible = absurd impossible
 in_worlds s w u (Err refusal) (Err other) alike is = is
 
 move_alike : (r : Reading) (move : Move) (w u : World) → WorldAlike w u
@@ -232,8 +232,8 @@ move_alike r move w u a =
 after_alike : (w u : World) (x y : Result Happened Refusal) → WorldAlike w u → HappenedAlike x y
     → WorldAlike (world_after w x) (world_after u y)
 after_alike w u (Ok a) (Ok b) alike h = h.1
-after_alike w u (Ok a) (Err refusal) alike never = absurd never
-after_alike w u (Err refusal) (Ok b) alike never = absurd never
+after_alike w u (Ok a) (Err refusal) alike impossible = absurd impossible
+after_alike w u (Err refusal) (Ok b) alike impossible = absurd impossible
 after_alike w u (Err refusal) (Err other) alike h = alike
 
 run_alike : (r : Reading) (moves : List Move) (w u : World) → WorldAlike w u
@@ -249,11 +249,11 @@ run_alike r (move ∷ moves) w u a =
 report_alike : (x y : Result Happened Refusal) → HappenedAlike x y → ReportsExpected x
     → ReportsExpected y
 report_alike (Ok a) (Ok b) h e = subst (λ outs. AreExpected outs) (sym h.0) e
-report_alike (Ok a) (Err refusal) never e = absurd never
+report_alike (Ok a) (Err refusal) impossible e = absurd impossible
 report_alike (Err refusal) y h e = refused_so y h
   where
     refused_so : (z : Result Happened Refusal) → HappenedAlike (Err refusal) z → ReportsExpected z
-    refused_so (Ok b) never = absurd never
+    refused_so (Ok b) impossible = absurd impossible
     refused_so (Err other) is = tt
 
 reports_alike : (r : Reading) (moves : List Move) (w u : World) → WorldAlike w u

@@ -29,7 +29,7 @@ use Rattle.lapd_recovery_laws.specs.Own.{are_apart, is_line_empty, is_due, AreOw
 use Rattle.lapd_recovery_laws.specs.ReleasedLine.{IsReleasing, IsReleasedLine, IsDown, ComesDown}
 use Rattle.lapd_recovery_laws.specs.Timers.{HaveTimersOfStates}
 use Rattle.lapd_recovery_laws.proofs.AnyOrder.{none_there, ok_in_world, runs_if_expires, rests_still}
-use Rattle.lapd_recovery_laws.proofs.Beside.{seeing}
+use Rattle.lapd_recovery_laws.proofs.OneMoreFrame.{seeing}
 use Rattle.lapd_recovery_laws.proofs.ClosedSteps.{Sees, seen_after_t200, seen_after_frame, disc_in_4, disc_in_6, ua_in_6, dm_in_6, retry_in_6, give_up_in_6, released, retried}
 use Rattle.lapd_recovery_laws.proofs.Lost.{at}
 use Rattle.lapd_recovery_laws.proofs.LostMoves.{moved_user}
@@ -273,10 +273,10 @@ module _ (n : ℕ) (x y : Station) where
       → After Deliver n x y to_user to_network
   user_delivers to_user to_network (inl s) =
       literally (After Deliver n x y) to_user to_network [] to_network s.to_user refl
-      (λ ok. let never = none_there x y to_network in cc)
+      (λ ok. let impossible = none_there x y to_network in cc)
   user_delivers to_user to_network (inr (inl (inl a))) =
       literally (After Deliver n x y) to_user to_network [] to_network a.to_user refl
-      (λ ok. let never = none_there x y to_network in cc)
+      (λ ok. let impossible = none_there x y to_network in cc)
   user_delivers to_user to_network (inr (inl (inr a))) =
       literally (After Deliver n x y) to_user to_network (disc ∷ []) [] a.to_network a.to_user
       (λ ok. moved_to Deliver (disc ∷ []) []
@@ -301,7 +301,7 @@ module _ (n : ℕ) (x y : Station) where
       })))
   user_delivers to_user to_network (inr (inr (inr a))) =
       literally (After Deliver n x y) to_user to_network [] to_network a.to_network refl
-      (λ ok. let never = none_there x y to_network in cc)
+      (λ ok. let impossible = none_there x y to_network in cc)
 
   abbrev AfterT200 : List Flight → List Flight → Type 0
   AfterT200 to_user to_network =

@@ -305,9 +305,9 @@ module _ (c : Context) (ns nr : ℕ) (s : StepState)
   abbrev k : Bool → Kind
   k p = Numbered (current c ns p) nr
 
-  never : {A : Type 0} (b : Bool) → b ≡ true → b ≡ false → A
-  never true on off = cc
-  never false on off = cc
+  impossible : {A : Type 0} (b : Bool) → b ≡ true → b ≡ false → A
+  impossible true on off = cc
+  impossible false on off = cc
 
   abbrev pvs : ℕ
   pvs = c.peer.sends.vs
@@ -419,7 +419,7 @@ module _ (c : Context) (ns nr : ℕ) (s : StepState)
       (Final w.vr) (received_out_of_sequence Whole ns true w free other not_yet) refl refl refl refl
       (omega arith)
       0 refl (rejected_falls w.rejecting 0 not_yet (omega arith)) (omega arith) refl refl refl
-      (λ on. never w.own_busy on free)
+      (λ on. impossible w.own_busy on free)
       (λ off end ks there. let first : IsInTransit false w.vr end
       (messages (k true ∷ ks)) =
       subst (λ b. IsInTransit b w.vr end (messages (k true ∷ ks))) not_yet there in absurd
@@ -429,7 +429,7 @@ module _ (c : Context) (ns nr : ℕ) (s : StepState)
       (Rejection w.vr) (received_out_of_sequence Whole ns false w free other not_yet) refl refl refl
       refl (omega arith)
       1 refl (rejected_falls w.rejecting 1 not_yet (omega arith)) (omega arith) refl refl refl
-      (λ on. never w.own_busy on free)
+      (λ on. impossible w.own_busy on free)
       (λ off end ks there. let first : IsInTransit false w.vr end
       (messages (k false ∷ ks)) =
       subst (λ b. IsInTransit b w.vr end (messages (k false ∷ ks))) not_yet there in absurd
@@ -458,7 +458,8 @@ module _ (c : Context) (ns nr : ℕ) (s : StepState)
       by_case : (busy rejecting : Bool) → w.own_busy ≡ busy → w.rejecting ≡ rejecting
           → (ns ≡ w.vr) ⊎ (ns ≡ w.vr → ⊥) → Replies c (k p) s (i_frame_ns Whole ns p s)
       by_case true rejecting busy r at =
-          discarded p (received_while_busy Whole ns p w busy) (λ off. never w.own_busy busy off)
+          discarded p (received_while_busy Whole ns p w busy) (λ off. impossible w.own_busy busy
+          off)
       by_case false rejecting free r (inl is) = taken p free is (below is)
       by_case false true free r (inr other) =
           discarded p (received_while_rejecting Whole ns p w free other r)

@@ -14,7 +14,7 @@ use Rattle.lapd_link_definition.specs.Input.{Heard}
 use Rattle.lapd_link_definition.specs.Procedures.{set_peer_busy, enquiry_response, acknowledge, i_frame_ns, transmit_i_frame, ensure_t200, transmit_rr, nr_error_recovery}
 use Rattle.lapd_link_definition.specs.Table.{by_state, row}
 use Rattle.lapd_link_definition.specs.TimerRecovery.{i_frame_nr_in_recovery, poll, rr_nr_in_recovery, timer_recovery, is_final}
-use Rattle.lapd_pair_laws.proofs.Draws.{is_ready}
+use Rattle.lapd_pair_laws.proofs.WorkOfActions.{is_ready}
 use Rattle.lapd_pair_laws.proofs.Lists.{by_test}
 use Rattle.lapd_link_definition.proofs.ComputedStep.{each_action, each_row}
 

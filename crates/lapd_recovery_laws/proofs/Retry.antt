@@ -22,8 +22,8 @@ use Rattle.lapd_pair_laws.proofs.Steps.{context}
 use Rattle.lapd_pair_laws.proofs.Worlds.{left_by}
 use Rattle.lapd_pair_laws.proofs.Flow.{source, sink, Polling, burden, Stream, Flow}
 use Rattle.lapd_pair_laws.proofs.StreamReceipts as receives
-use Rattle.lapd_pair_laws.proofs.Draws.{Draws}
-use Rattle.lapd_pair_laws.proofs.DrawCloses.{draws_close, ready_enquiry}
+use Rattle.lapd_pair_laws.proofs.WorkOfActions.{Draws}
+use Rattle.lapd_pair_laws.proofs.WorkOfClosing.{draws_close, ready_enquiry}
 use Rattle.lapd_pair_laws.proofs.Drains.{Seen, mine_open, after_step, preserved_after}
 use Rattle.lapd_pair_laws.proofs.SettledEnds.{closed_step}
 use Rattle.lapd_pair_laws.proofs.States.{enquiry_puts}

@@ -25,13 +25,13 @@ use Rattle.lapd_pair_laws.specs.Line.{Flight}
 use Rattle.lapd_pair_laws.specs.Move.{Deliver, Station, View, acts, receives, delivers, view_after, story_after}
 use Rattle.lapd_pair_laws.specs.Kinds.{kinds, messages, rejections, tally, poll_of, final_of}
 use Rattle.lapd_pair_laws.proofs.ActionEffects.{Context, story}
-use Rattle.lapd_pair_laws.proofs.Draws.{AreReady}
+use Rattle.lapd_pair_laws.proofs.WorkOfActions.{AreReady}
 use Rattle.lapd_pair_laws.proofs.Flow.{IsWhole}
 use Rattle.lapd_pair_laws.proofs.Lists.{by_test}
 use Rattle.lapd_pair_laws.proofs.Steps.{context}
 use Rattle.lapd_pair_laws.proofs.States.{next_sent, next_puts, ensure_puts}
 use Rattle.lapd_pair_laws.proofs.Worlds.{left_by}
-use Rattle.lapd_recovery_laws.proofs.Beside.{seeing}
+use Rattle.lapd_recovery_laws.proofs.OneMoreFrame.{seeing}
 use Rattle.lapd_recovery_laws.proofs.Establishes.{discards_by, by_outstanding}
 use Rattle.lapd_recovery_laws.proofs.LoneSteps.{is_ignored, sabme, ua, and_off}
 

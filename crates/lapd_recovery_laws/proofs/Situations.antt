@@ -20,7 +20,7 @@ use Rattle.lapd_pair_laws.proofs.Flow.{source, sink, IsWhole, Clean, Stream}
 use Rattle.lapd_pair_laws.proofs.Worlds.{left_by}
 use Rattle.lapd_recovery_laws.specs.AfterOutage.{IsKept}
 use Rattle.lapd_recovery_laws.proofs.AnyOrder.{Draining}
-use Rattle.lapd_recovery_laws.proofs.Beside.{seeing}
+use Rattle.lapd_recovery_laws.proofs.OneMoreFrame.{seeing}
 use Rattle.lapd_recovery_laws.proofs.ClosedSteps.{Sees, seen_after_t200}
 use Rattle.lapd_recovery_laws.proofs.HalfSteps.{dm, disc}
 use Rattle.lapd_recovery_laws.proofs.LoneSteps.{is_ignored, Polls, polls_by_t200, polls_again, sabme, ua, asking, last_try_in_8}
@@ -63,8 +63,8 @@ not_both true off on = cc
 not_both false off on = cc
 
 pub false_if : (b : Bool) → (b ≡ true → ⊥) → b ≡ false
-false_if true never = absurd (never refl)
-false_if false never = refl
+false_if true impossible = absurd (impossible refl)
+false_if false impossible = refl
 
 module _ (N : ℕ) where
   -- after an end in state 5 has given up, an open peer finds it in state 4

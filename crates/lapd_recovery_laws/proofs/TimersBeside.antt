@@ -36,11 +36,11 @@ use Rattle.lapd_recovery_laws.specs.EarlyTimers.{is_message, messages_in, if_in_
 use Rattle.lapd_recovery_laws.specs.Losses.{one_if}
 use Rattle.lapd_recovery_laws.specs.Own.{IsFree}
 use Rattle.lapd_recovery_laws.specs.Timers.{HaveTimersOfStates}
-use Rattle.lapd_recovery_laws.proofs.Beside.{seeing}
+use Rattle.lapd_recovery_laws.proofs.OneMoreFrame.{seeing}
 use Rattle.lapd_recovery_laws.proofs.ClosedSteps.{Sees, seen_after_t200, released, retried, retry_in_6, give_up_in_6}
 use Rattle.lapd_recovery_laws.proofs.EndSends.{kinds_append}
 use Rattle.lapd_recovery_laws.proofs.HalfSteps.{disc, asked_again, abandoned, retry_in_5, give_up_in_5}
-use Rattle.lapd_recovery_laws.proofs.Lone.{t200_runs, t203_runs, ok_of_side}
+use Rattle.lapd_recovery_laws.proofs.PeerReleased.{t200_runs, t203_runs, ok_of_side}
 use Rattle.lapd_recovery_laws.proofs.LoneSteps.{Polls, polls_by_t200, polls_by_t203, polls_again, sabme, asking, last_try_in_8}
 use Rattle.lapd_recovery_laws.proofs.Lost.{at}
 use Rattle.lapd_recovery_laws.proofs.LostMoves.{moved_user}
@@ -305,7 +305,7 @@ module _ (x : Station) where
           with_none x expired s.outgoing (from_sees x expired e [] s (record {
             fewer = omega arith;
             free = λ free opened. cc;
-            heard = λ ks. let none = extra_shut e ks refl (λ never. cc) in omega (arith, none);
+            heard = λ ks. let none = extra_shut e ks refl (λ impossible. cc) in omega (arith, none);
             closes = λ shut. inl (ap is_7_or_8 is);
           }))
 
@@ -328,7 +328,7 @@ module _ (x : Station) where
           with_none x expired s.outgoing (from_sees x expired e [] s (record {
             fewer = omega arith;
             free = λ free opened. cc;
-            heard = λ ks. let none = extra_shut e ks refl (λ never. cc) in omega (arith, none);
+            heard = λ ks. let none = extra_shut e ks refl (λ impossible. cc) in omega (arith, none);
             closes = λ shut. inl (ap is_7_or_8 is);
           }))
 

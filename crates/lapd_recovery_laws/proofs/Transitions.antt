@@ -15,7 +15,7 @@ use Rattle.lapd_pair_laws.specs.Move.{PairEvent, Deliver, Expire200, Expire203, 
 use Rattle.lapd_pair_laws.specs.Parties.{Party, party}
 use Rattle.lapd_pair_laws.specs.World.{World, with_view}
 use Rattle.lapd_pair_laws.proofs.Worlds.{left_by}
-use Rattle.lapd_recovery_laws.proofs.Beside.{seeing}
+use Rattle.lapd_recovery_laws.proofs.OneMoreFrame.{seeing}
 use Rattle.lapd_recovery_laws.proofs.ClosedSteps.{Sees, seen_after_t200, seen_after_frame, retry_in_6, give_up_in_6, released, retried}
 use Rattle.lapd_recovery_laws.proofs.HalfSteps.{disc, retry_in_5, give_up_in_5, asked_again, abandoned, ignored_if_closed}
 use Rattle.lapd_recovery_laws.proofs.LoneSteps.{is_ignored, polls_by_t203, sabme, asking}
@@ -200,10 +200,10 @@ module _ (N : ℕ) (some_retries : 1 ≤ N) (up : Bool) where
                 (asks_anew n x y few on (n - 1) a (omega (arith, le, more, none)))
                 (λ _. none_releases n
                 x y few on a
-                (λ in_6. let never =
+                (λ in_6. let impossible =
                 other_state _ TeiAssigned AwaitingRelease s.network in_6 in cc)
                 (λ in_5. absurd
-                (let never =
+                (let impossible =
                 other_state _ TeiAssigned AwaitingEstablishment s.network
                 in_5 in
                 cc)))));
@@ -261,7 +261,7 @@ module _ (N : ℕ) (some_retries : 1 ≤ N) (up : Bool) where
                 inr (inl (asks_5 (asks_anew n x y few on (n - 1) a (omega (arith, le, more, all)))
                 (λ is. none_releases n
                 x y few on a
-                (λ in_6. let never =
+                (λ in_6. let impossible =
                 other_state _ AwaitingEstablishment AwaitingRelease s.network
                 in_6 in cc) (λ _. k is))));
           }
@@ -346,11 +346,11 @@ module _ (N : ℕ) (some_retries : 1 ≤ N) (up : Bool) where
                 (λ up_is. record {
                   user = ap (λ (e : End). e.release_pending) v.end ∙ k up_is;
                   not_6 =
-                      λ in_6. let never : is_7_or_8 x.end.state ≡ false =
+                      λ in_6. let impossible : is_7_or_8 x.end.state ≡ false =
                       ap is_7_or_8 in_6 in let open_state = s.open_state in cc;
                   network =
                       λ in_5. absurd
-                      (let never : is_7_or_8 x.end.state ≡ false = ap is_7_or_8 in_5 in
+                      (let impossible : is_7_or_8 x.end.state ≡ false = ap is_7_or_8 in_5 in
                       let open_state = s.open_state in cc);
                 })));
           }

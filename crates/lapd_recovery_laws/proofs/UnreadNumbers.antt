@@ -248,8 +248,8 @@ module _ (vs va vr : ℕ) where
       record { outputs = ap (λ u. Ok u.outs) is; ends = inl (unread, ap (λ u. u.end) is) }
   answers e f (Ok s) (Ok t) ends (inr same) =
       record { outputs = ap (λ u. Ok u.outs) same; ends = inr (ap (λ u. u.end) same) }
-  answers e f (Ok s) (Err fault) ends never = absurd never
-  answers e f (Err fault) (Ok t) ends never = absurd never
+  answers e f (Ok s) (Err fault) ends impossible = absurd impossible
+  answers e f (Err fault) (Ok t) ends impossible = absurd impossible
   answers e f (Err fault) (Err other) ends same =
       record { outputs = ap (λ x. Err x) same; ends = ends }
 

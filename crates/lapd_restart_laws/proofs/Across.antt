@@ -66,7 +66,7 @@ module _ (S : Type 0) (w : Behaviour S) (side : Side) (id : LinkId) (low : id.te
     restarts_by consistent same (made is) (inr (inl h)) =
         unmoved (joins S w side id low v after new links view p config is fresh h)
     restarts_by consistent same (made is) (inr (inr h)) =
-        let never : true ≡ false =
+        let impossible : true ≡ false =
         sym h.removed ∙ quick.returns (ap is_some h.absent) (ap is_some is) in
         cc
 

@@ -188,7 +188,7 @@ module _ (before new : Links) where
     where
       reported : (test : Bool) → (id.tei == id.tei) ≡ test → (test || false) ≡ true
       reported true is = refl
-      reported false is = let never : true ≡ false = grind (arith, nat_tests, is) in cc
+      reported false is = let impossible : true ≡ false = grind (arith, nat_tests, is) in cc
 
   -- ---- All links.
 

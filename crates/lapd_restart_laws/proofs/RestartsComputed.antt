@@ -128,8 +128,8 @@ across_both_so first answer second third one two three four =
 
 -- ---- A side restarts without a TEI.
 
-never : false ≡ true → ⊥
-never h = cc
+impossible : false ≡ true → ⊥
+impossible h = cc
 
 pub record TeiLost (message : Vec ℕ Global) : Type 0 where
   pub lost_premises : KeepPremises configs call (tei_lost message) unassigned
@@ -149,9 +149,9 @@ tei_lost_holds v x = record {
   lost_premises = (
     (tt, λ there. refl),
     (
-      (tt, λ there. absurd (never there)),
+      (tt, λ there. absurd (impossible there)),
       (
-        (tt, λ there. absurd (never there)),
+        (tt, λ there. absurd (impossible there)),
         (
           (tt, λ there. refl),
           (
@@ -165,7 +165,7 @@ tei_lost_holds v x = record {
                   (
                     record {
                       returns = λ had has. refl;
-                      quiet = λ had has. absurd (never has);
+                      quiet = λ had has. absurd (impossible has);
                     },
                     (
                       (tt, λ there. refl),
@@ -208,14 +208,14 @@ tei_lost_holds v x = record {
                   (
                     record {
                       returns = λ had has. refl;
-                      quiet = λ had has. absurd (never had);
+                      quiet = λ had has. absurd (impossible had);
                     },
                     (
                       (tt, λ there. refl),
                       (
-                        (tt, λ there. absurd (never there)),
+                        (tt, λ there. absurd (impossible there)),
                         (
-                          (tt, λ there. absurd (never there)),
+                          (tt, λ there. absurd (impossible there)),
                           (
                             (tt, λ there. refl),
                             ((tt, λ there. refl), tt),

@@ -66,7 +66,36 @@ pub record Assigned (message : Vec ℕ Global) : Type 0 where
 assigned_holds : (v : Vec ℕ Global) (x : Fits v (1 ∷ [])) → Assigned (holding v (1 ∷ []) x)
 unfolding computed_events
 assigned_holds v x = record {
-  premises = ((tt, (tt, (tt, (tt, (tt, (tt, (tt, (tt, tt)))))))), (λ there. refl, (λ there. (let never : false ≡ true = there in cc), (λ there. (let never : false ≡ true = there in cc), (λ there. refl, (λ there. refl, (λ there. refl, (λ there. refl, (λ there. refl, tt)))))))));
+  premises = (
+    (tt, (tt, (tt, (tt, (tt, (tt, (tt, (tt, tt)))))))),
+    (
+      λ there. refl,
+      (
+        λ there. (let
+            impossible : false ≡ true = there in cc),
+        (
+          λ there. (let impossible : false ≡ true = there in
+              cc),
+          (
+            λ there. refl,
+            (
+              λ there. refl,
+              (
+                λ there. refl,
+                (
+                  λ there. refl,
+                  (
+                    λ there. refl,
+                    tt,
+                  ),
+                ),
+              ),
+            ),
+          ),
+        ),
+      ),
+    ),
+  );
   to_user = refl;
   to_network = refl;
 }
@@ -95,7 +124,7 @@ removed_so = with_octets Removed (1 ∷ []) removed_holds
 pub one_of : {Y : Type 0} (f : ℕ → Y) (y : Y) (places : List ℕ) (at : ℕ) → map f places ≡ y ∷ [] → IsAmong at places → f at ≡ y
 one_of f y [] at same among = absurd among
 one_of f y (place ∷ []) at same (inl here) = subst (λ (p : ℕ). f p ≡ y) here cc
-one_of f y (place ∷ []) at same (inr never) = absurd never
+one_of f y (place ∷ []) at same (inr impossible) = absurd impossible
 one_of f y (place ∷ next ∷ places) at same among = cc
 
 none_of : {Y : Type 0} (f : ℕ → Y) (places : List ℕ) (at : ℕ) → map f places ≡ [] → IsAmong at places → ⊥

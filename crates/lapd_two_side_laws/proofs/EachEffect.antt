@@ -38,7 +38,7 @@ use Rattle.lapd_two_side_laws.proofs.LinkParts.{absent_acts, own_granted, passes
 use Rattle.lapd_two_side_laws.proofs.Managed.{and_not}
 use Rattle.lapd_two_side_laws.proofs.SideEvents.{none_accepted}
 use Rattle.lapd_sides.specs.SideState.{SideState, Rules, among_links, or_discarded, link_of, unit_from_group, message_received, data_received, fault_received, received, takes}
-use Rattle.lapd_two_side_laws.proofs.Serves.{ServesMeant}
+use Rattle.lapd_two_side_laws.proofs.EventOnLink.{ServesMeant}
 
 -- ---- The effect of an event on a link, with the messages that the link accepts.
 

@@ -1,6 +1,6 @@
 pub mod LinkParts
 pub mod Managed
-pub mod Serves
+pub mod EventOnLink
 pub mod Networks
 pub mod Users
 pub mod Timed
@@ -19,7 +19,7 @@ pub mod ComputedEvents
 pub mod Reactions
 pub mod Requests
 pub mod LinkOps
-pub mod Plain
+pub mod ReportsNoTei
 pub mod HeldTeis
 pub mod OwnTeis
 pub mod TerminalOwn
@@ -45,6 +45,6 @@ pub mod SideAccounts
 pub mod AccountsComputed
 pub mod ExactLinks
 pub mod ExactSides
-pub mod Woken
+pub mod DeadlinesCoverTimers
 pub mod ManagementTimers
 pub mod ManagementSides

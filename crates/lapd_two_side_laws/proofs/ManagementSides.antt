@@ -23,7 +23,7 @@ use Rattle.lapd_side_events.specs.Interface.{Configs, Interface, Move, behaviour
 use Rattle.lapd_two_side_laws.specs.ManagementTimers.{RunsAlone, HasTimerOfTerminal, HasTimerOfAssigner, HaveTimersOfManagement}
 use Rattle.lapd_side_events.specs.SideView.{SideEvent, SideView, reaction, does}
 use Rattle.lapd_two_side_laws.proofs.ManagementTimers.{assigner_row, awaits_before, checks_before, expired_201, expired_202, terminal_row}
-use Rattle.lapd_two_side_laws.proofs.Plain.{pending_aside}
+use Rattle.lapd_two_side_laws.proofs.ReportsNoTei.{pending_aside}
 use Rattle.lapd_two_side_laws.proofs.Reactions.{Law, HoldsOfLinks, HoldsOfRules, HoldsOfEvents, AnyInput, AnyRequest, each_event, each_request, reacts}
 use Rattle.lapd_two_side_laws.proofs.Requests.{by_events, network_asked, step_at, stepped_by, user_asked}
 

@@ -17,7 +17,7 @@ use Rattle.lapd_two_side_laws.specs.Owed.{ServesLink}
 use Rattle.lapd_two_side_laws.proofs.LinkParts.{spelled_is_for, none_pass}
 use Rattle.lapd_two_side_laws.proofs.Managed.{managing, not_of_group, message_is_other}
 use Rattle.lapd_two_side_laws.proofs.Requests.{network_asked, sent_to_group}
-use Rattle.lapd_two_side_laws.proofs.Serves.{Asks, ServesMeant, Spares, SparesLink, asked_links, moves, no_request, serves}
+use Rattle.lapd_two_side_laws.proofs.EventOnLink.{Asks, ServesMeant, Spares, SparesLink, asked_links, moves, no_request, serves}
 use Rattle.lapd_sides.specs.AllTeis.{check_of_all, removal_of_all}
 use Rattle.lapd_tei.specs.declared.out.TeiOut.{TeiOut}
 use Rattle.lapd_sides_links.specs.Effects.{message_sent}

@@ -23,7 +23,7 @@ use Rattle.lapd_side_events.specs.SideView.{SideEvent, SideView, reaction, does}
 use Rattle.lapd_two_side_laws.proofs.HeldTeis.{GivesFree, gives_free}
 use Rattle.lapd_two_side_laws.proofs.LinkOps.{IsLinkOp, none_of_both, op_acts, op_expires}
 use Rattle.lapd_two_side_laws.proofs.OwnTeis.{AreOf, IsQuietFor, LeavesOwn, managed_are, managed_is_quiet}
-use Rattle.lapd_two_side_laws.proofs.Plain.{pending_aside, plain_no_assignment}
+use Rattle.lapd_two_side_laws.proofs.ReportsNoTei.{pending_aside, plain_no_assignment}
 use Rattle.lapd_two_side_laws.proofs.Reactions.{Law, HoldsOfLinks, HoldsOfRules, HoldsOfEvents, AnyInput, AnyRequest, each_event, each_request, reacts}
 use Rattle.lapd_two_side_laws.proofs.Requests.{by_events, network_asked, step_at, stepped_by, user_asked}
 use Rattle.lapd_two_side_laws.proofs.TerminalOwn.{Owns, terminal_leaves}

@@ -15,7 +15,7 @@ use Rattle.lapd_sides.specs.Management.{links_with, links_without, removal_primi
 use Rattle.lapd_side_events.specs.Interface.{fresh_link}
 use Rattle.lapd_two_side_laws.specs.Premises.{is_assignment}
 use Rattle.lapd_two_side_laws.proofs.LinkOps.{none_of_both}
-use Rattle.lapd_two_side_laws.proofs.Plain.{plain_no_assignment, plain_removals}
+use Rattle.lapd_two_side_laws.proofs.ReportsNoTei.{plain_no_assignment, plain_removals}
 use Rattle.lapd_two_side_laws.proofs.Managed.{freed_here, freed_is_other, without_this, without_other}
 
 -- each existing link has such a TEI

@@ -133,7 +133,7 @@ sent_by_station s link l there end now place sent =
 
 pub sent_by_none : (link : Option Linked) (now : ℕ → Option ℕ) → link ≡ None → AreSentBy link now
 sent_by_none link now absent place sent =
-    let never : false ≡ true = ap (λ o. is_sent o place) (sym absent) ∙ sent in cc
+    let impossible : false ≡ true = ap (λ o. is_sent o place) (sym absent) ∙ sent in cc
 
 by_sent : (test : Bool) (link : Option Linked) (own before now : Option ℕ)
     → (test ≡ true → now ≡ Some (establishments_of link)) → (now ≡ before) ⊎ (test ≡ true)
@@ -141,7 +141,7 @@ by_sent : (test : Bool) (link : Option Linked) (own before now : Option ℕ)
     → (if test then Some (establishments_of link) else own) ≡ now
 by_sent true link own before now new either same = sym (new refl)
 by_sent false link own before now new (inl preserved) same = same ∙ sym preserved
-by_sent false link own before now new (inr never) same = cc
+by_sent false link own before now new (inr impossible) same = cc
 
 pub sent_recorded : (link : Option Linked) (own before now : ℕ → Option ℕ)
     → AreKeptOrSent link before now → AreSentBy link now → ((place : ℕ) → own place ≡ before place)

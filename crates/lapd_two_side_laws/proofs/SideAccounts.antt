@@ -50,7 +50,7 @@ use Rattle.lapd_two_side_laws.proofs.EachEffect.{Affects, takes_its, each_effect
 use Rattle.lapd_two_side_laws.proofs.LinkParts.{now_there, any_more, any_behind, learns_both}
 use Rattle.lapd_two_side_laws.proofs.OwnSides.{AreOwned, Has, Holds, PreservesOwned, network_preserves, network_steps_held, user_preserves, user_steps_own}
 use Rattle.lapd_two_side_laws.proofs.Networks.{network_meant, of_network}
-use Rattle.lapd_two_side_laws.proofs.Serves.{ServesMeant}
+use Rattle.lapd_two_side_laws.proofs.EventOnLink.{ServesMeant}
 use Rattle.lapd_two_side_laws.proofs.OwnTeis.{IsQuietFor}
 use Rattle.lapd_two_side_laws.proofs.Users.{of_user, user_meant}
 

@@ -603,9 +603,9 @@ module _ (S : Type 0) (w : Behaviour S) (side : Side) (id : LinkId) where
       → runs_on timer ((w.served v.now).links id) ≡ true → HasLink (w.served v.now).links id end
   is_there v timer end (inl has) runs = has
   is_there v timer end (inr (inl early)) runs =
-      let never : false ≡ true = sym (ap (runs_on timer) early.absent) ∙ runs in cc
+      let impossible : false ≡ true = sym (ap (runs_on timer) early.absent) ∙ runs in cc
   is_there v timer end (inr (inr late)) runs =
-      let never : false ≡ true = sym (ap (runs_on timer) late.absent) ∙ runs in cc
+      let impossible : false ≡ true = sym (ap (runs_on timer) late.absent) ∙ runs in cc
 
   t200_is_event : (view : View) → view.station.end.t200 ≡ true → first_poll view.outgoing ≡ None
       → first_final view.incoming ≡ None

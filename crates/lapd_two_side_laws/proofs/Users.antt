@@ -37,8 +37,8 @@ use Rattle.lapd_side_events.specs.SideView.{SideEvent, SideView, reaction}
 use Rattle.lapd_two_side_laws.proofs.Managed.{managing, outcomes_spare, and_not, neither, any_first, other_tei}
 use Rattle.lapd_two_side_laws.proofs.Reactions.{AnyInput, AnyRequest, HoldsOfEvents, HoldsOfLinks, each_event, each_request, moment_or, reacts}
 use Rattle.lapd_two_side_laws.proofs.Requests.{HoldsInTurn, by_events, forgotten_by, pending_so, step_at, stepped_by, user_asked}
-use Rattle.lapd_two_side_laws.proofs.Serves as its
-use Rattle.lapd_two_side_laws.proofs.Serves.{ServesMeant, SparesLink, serves}
+use Rattle.lapd_two_side_laws.proofs.EventOnLink as its
+use Rattle.lapd_two_side_laws.proofs.EventOnLink.{ServesMeant, SparesLink, serves}
 
 refuses : (phase : Phase) (id : LinkId) (message : List ℕ) (now : ℕ) (s : User)
     (a : Reaction User) → own_link phase id ≡ None

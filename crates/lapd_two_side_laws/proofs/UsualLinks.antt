@@ -43,9 +43,9 @@ use Rattle.lapd_two_side_laws.proofs.Reactions.{moment_or}
 abbrev pub none_answers : What → Bool
 none_answers w = false
 
-pub never : (ws : List What) → list_any none_answers ws ≡ true → ⊥
-never [] h = cc
-never (w ∷ ws) h = never ws h
+pub impossible : (ws : List What) → list_any none_answers ws ≡ true → ⊥
+impossible [] h = cc
+impossible (w ∷ ws) h = impossible ws h
 
 module _ (config : Config) (id : LinkId) (clock : Bool) (bound : ℕ) where
   -- the deadline of T200, if it runs
@@ -192,7 +192,7 @@ module _ (config : Config) (id : LinkId) (clock : Bool) (bound : ℕ) where
         elim (all_go id true none_answers Usual config S w side_of usual_closed ways Comes comes
         side_steps (new_view s) 0 (λ no. cc) (throughout side_steps (new_view s) by)
         (inr (0, u))) [
-          | inl h ↦ absurd (never (link_primitives id
+          | inl h ↦ absurd (impossible (link_primitives id
               (stepped_by_all w side_steps (new_view s)).delivered) h)
           | inr (last, v) ↦ later 0 last bound _ (λ ticks. omega arith) (same_m last v)
         ]
@@ -214,7 +214,7 @@ module _ (config : Config) (id : LinkId) (clock : Bool) (bound : ℕ) where
         elim (subst (λ r. IfOk r (λ (x : Reaction S). Usual 0 bound ((w.served s).links id)
         → GoesAt id true none_answers Usual config S w 0 bound x)) done
         (ways.requested 0 bound request s (λ no. cc)) u) [
-          | inl h ↦ absurd (never (link_primitives id a.effects.primitives) h)
+          | inl h ↦ absurd (impossible (link_primitives id a.effects.primitives) h)
           | inr v ↦ v
         ]
 

@@ -31,7 +31,7 @@ use Rattle.lapd_two_side_laws.specs.ManagementTimers.{HasTimerOfTerminal}
 use Rattle.lapd_two_side_laws.specs.NewLinks.{user_after}
 use Rattle.lapd_side_events.specs.SideView.{SideView, SideEvent, Take, Lose, Expire, Ask, Overhear, does}
 use Rattle.lapd_two_side_laws.proofs.AsMade.{new_are_own}
-use Rattle.lapd_two_side_laws.proofs.Plain.{pending_aside}
+use Rattle.lapd_two_side_laws.proofs.ReportsNoTei.{pending_aside}
 use Rattle.lapd_two_side_laws.proofs.Requests.{by_events, step_at, stepped_by, user_asked}
 use Rattle.lapd_two_side_laws.proofs.ManagementSides.{user_timer, new_user_waits}
 use Rattle.lapd_two_side_laws.proofs.OwnSides.{AreOwn, user_preserves}

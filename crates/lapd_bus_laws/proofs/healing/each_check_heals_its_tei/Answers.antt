@@ -1,4 +1,4 @@
-use Rattle.lapd_bus_laws.proofs.Apart.{healed_are_apart}
+use Rattle.lapd_bus_laws.proofs.TerminalsApart.{healed_are_apart}
 use Rattle.lapd_bus_laws.proofs.Healed.{check_heals, checks_heal_all, reached_without}
 use Rattle.lapd_bus_laws.proofs.healing.each_check_heals_its_tei.Goals as goal
 

@@ -1,4 +1,4 @@
-use Rattle.lapd_bus_laws.proofs.Sole.{safe_here, nobody_elses}
+use Rattle.lapd_bus_laws.proofs.PremisesOfInterface.{safe_here, nobody_elses}
 use Rattle.lapd_bus_laws.proofs.laws.each_terminals_link_is_safe.Goals as goal
 
 pub returns : goal.returns

@@ -20,10 +20,10 @@ use Rattle.lapd_pair_laws.proofs.ActionEffects.{Context, story, kinds_more, enqu
 use Rattle.lapd_pair_laws.proofs.Lists.{by_test, numbers_more, rejections_same, tally_more}
 use Rattle.lapd_pair_laws.proofs.Flow.{source, sink, Stream, Lighter, Flow}
 use Rattle.lapd_pair_laws.proofs.StreamReceipts as receives
-use Rattle.lapd_pair_laws.proofs.Speaks as speaks
-use Rattle.lapd_pair_laws.proofs.Draws.{with_pending, is_ready, ready_more, Draws}
+use Rattle.lapd_pair_laws.proofs.SenderStream as speaks
+use Rattle.lapd_pair_laws.proofs.WorkOfActions.{with_pending, is_ready, ready_more, Draws}
 use Rattle.lapd_pair_laws.proofs.States.{rr_puts, enquiry_puts, next_sent, next_puts, last_sent, last_puts, ensure_puts}
-use Rattle.lapd_pair_laws.proofs.DrawRows.{pending_messages}
+use Rattle.lapd_pair_laws.proofs.WorkOfRows.{pending_messages}
 
 -- ---- A message is sent, and with it the pending acknowledgement.
 
@@ -167,10 +167,10 @@ flow_polled : (x z y : End) (u : Kind) (nr n : ℕ) → x.t200 ≡ true → poll
     → rejection_of u ≡ [] → final_of u ≡ 0
     → source z ≡ record (source x) { state = TimerRecovery; t200 = true } → sink z ≡ sink x
     → Flow x y [] [] n → Flow z y (u ∷ []) [] (n - 1)
-flow_polled x z y u nr n runs poll mild no_final same_source same_sink f =
+flow_polled x z y u nr n runs poll rejects_none no_final same_source same_sink f =
     let l = speaks.polls (source x) (sink y) u f.a runs poll f.mine in
     let its : Stream (source y) (sink x) [] (u ∷ []) f.b =
-    receives.sends_more (source y) (sink x) [] [] (u ∷ []) f.b (ap (λ r. r ++ []) mild)
+    receives.sends_more (source y) (sink x) [] [] (u ∷ []) f.b (ap (λ r. r ++ []) rejects_none)
     (λ j none. absurd none) (omega (arith, no_final)) f.its in
     record {
       a = f.a - 2;

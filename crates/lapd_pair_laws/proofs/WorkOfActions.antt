@@ -20,7 +20,7 @@ use Rattle.lapd_pair_laws.proofs.Receives.{current, left, as_received}
 use Rattle.lapd_pair_laws.proofs.Sends.{same_or_not}
 use Rattle.lapd_pair_laws.proofs.Flow.{source, sink, Stream, Lighter, Flow, burden}
 use Rattle.lapd_pair_laws.proofs.StreamReceipts as receives
-use Rattle.lapd_pair_laws.proofs.Speaks as speaks
+use Rattle.lapd_pair_laws.proofs.SenderStream as speaks
 use Rattle.lapd_pair_laws.proofs.Facts.{taken_below, polled_by_8}
 use Rattle.lapd_pair_laws.proofs.States.{PutsFrame, unanswered_puts, answered_puts, response_puts}
 

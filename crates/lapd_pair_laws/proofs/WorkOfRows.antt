@@ -27,9 +27,9 @@ use Rattle.lapd_pair_laws.proofs.Receives.{mid_ns}
 use Rattle.lapd_pair_laws.proofs.FrameOfStep.{turned, rejection_left, final_left}
 use Rattle.lapd_pair_laws.proofs.Flow.{IsInTransit, IsClean, source, sink, Stream, Flow}
 use Rattle.lapd_pair_laws.proofs.StreamReceipts as receives
-use Rattle.lapd_pair_laws.proofs.Speaks as speaks
+use Rattle.lapd_pair_laws.proofs.SenderStream as speaks
 use Rattle.lapd_pair_laws.proofs.Facts.{AllArrive, between_open, number_open, acknowledged_so, rejected_so, final_so}
-use Rattle.lapd_pair_laws.proofs.Draws.{with_pending, sent_by, is_ready, Draws, draws_ns, draws_response}
+use Rattle.lapd_pair_laws.proofs.WorkOfActions.{with_pending, sent_by, is_ready, Draws, draws_ns, draws_response}
 use Rattle.lapd_pair_laws.proofs.States.{PutsNoFrame, then_no_frame, start_200_puts, start_203_puts, stop_200_puts, acknowledge_puts}
 
 other_number : (a b : ℕ) → (a == b) ≡ false → a ≡ b → ⊥

@@ -33,7 +33,7 @@ use Rattle.lapd_recovery_laws.specs.LoneLine.{IsLone, IsLoneLine, most_lone_move
 use Rattle.lapd_recovery_laws.specs.Own.{are_apart, is_empty, is_line_empty, is_due, IsOwn, AreOwn, Rests}
 use Rattle.lapd_recovery_laws.specs.Timers.{HaveTimersOfStates}
 use Rattle.lapd_recovery_laws.proofs.AnyOrder.{Draining, draining_swapped, own_moves_on, ok_in_world, rests_still, rests_drained}
-use Rattle.lapd_recovery_laws.proofs.Beside.{seeing}
+use Rattle.lapd_recovery_laws.proofs.OneMoreFrame.{seeing}
 use Rattle.lapd_recovery_laws.proofs.ClosedSteps.{seen_after_t200, seen_after_frame}
 use Rattle.lapd_recovery_laws.proofs.Establishes.{seen_established}
 use Rattle.lapd_recovery_laws.proofs.LoneSteps.{is_ignored, ignored_in_4, Polls, polls_by_t200, polls_by_t203, polls_again, AsksItself, sabme, asking, last_try_in_8, asks_itself, IsNew, ua, established, sabme_in_4, is_new}
@@ -267,7 +267,7 @@ t200_runs v ok = by_timer v.station.end.t200 refl
   where
     by_timer : (b : Bool) → v.station.end.t200 ≡ b → v.station.end.t200 ≡ true
     by_timer true on = on
-    by_timer false off = let never : false ≡ true = rw off at ok in cc
+    by_timer false off = let impossible : false ≡ true = rw off at ok in cc
 
 pub t203_runs : (v : View) → is_ok (acts Whole side.User Expire203 v) ≡ true
     → v.station.end.t203 ≡ true
@@ -276,12 +276,12 @@ t203_runs v ok = by_timer v.station.end.t203 refl
   where
     by_timer : (b : Bool) → v.station.end.t203 ≡ b → v.station.end.t203 ≡ true
     by_timer true on = on
-    by_timer false off = let never : false ≡ true = rw off at ok in cc
+    by_timer false off = let impossible : false ≡ true = rw off at ok in cc
 
 pub not_apart : (x y : End) → x.state ≡ TimerRecovery → y.state ≡ TeiAssigned
     → (if is_established x.state then not (is_established y.state) else is_established y.state)
     ≡ true → ⊥
-not_apart x y is its_is apart = let never : false ≡ true = rw (is, its_is) at apart in cc
+not_apart x y is its_is apart = let impossible : false ≡ true = rw (is, its_is) at apart in cc
 
 pub last_of : (a b c : Bool) → (a && b && c) ≡ true → c ≡ true
 last_of true true c all = all

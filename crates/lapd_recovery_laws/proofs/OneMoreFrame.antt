@@ -13,7 +13,7 @@ use Rattle.lapd_pair_laws.specs.Histories.{History, Occasion, Story, after_outpu
 use Rattle.lapd_pair_laws.specs.Line.{Flight, without_info}
 use Rattle.lapd_pair_laws.specs.Move.{Deliver, Station, View, acts, receives, delivers, view_after, story_after}
 use Rattle.lapd_pair_laws.specs.Kinds.{Kind, kind, kinds, message_of, messages, tally}
-use Rattle.lapd_pair_laws.proofs.Draws.{AreReady}
+use Rattle.lapd_pair_laws.proofs.WorkOfActions.{AreReady}
 use Rattle.lapd_pair_laws.proofs.Worlds.{left_by}
 
 -- ---- Lists.

@@ -19,7 +19,7 @@ use Rattle.lapd_bus_laws.specs.Links.{Throughout}
 use Rattle.lapd_bus_laws.proofs.Healed.{event_management, checks_heal_all}
 use Rattle.lapd_bus_laws.proofs.Lists.{Each, each_set, each_map, map_back, any_at, any_weaker, either_some, not_both}
 use Rattle.lapd_bus_laws.proofs.Single.{KeepsApart, no_management, all_keep, new_keeps, single_from}
-use Rattle.lapd_bus_laws.proofs.Sole.{has_so}
+use Rattle.lapd_bus_laws.proofs.PremisesOfInterface.{has_so}
 
 module _ (c : Configs) where
   abbrev IsOwn : SideView User → Type 0
