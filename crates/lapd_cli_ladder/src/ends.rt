@@ -11,7 +11,11 @@ use lapd_frame::{Address, Frame, FrameFault, Side};
 use std::alloc::{AllocError, Global};
 
 /// The words of the end of this side, of the link of this frame.
-pub(crate) fn known_words(
+///
+/// # Errors
+///
+/// `AllocError` if an allocation fails.
+pub fn known_words(
     alloc: Global,
     side: Side,
     frame: &Result<Frame<'_>, FrameFault>,

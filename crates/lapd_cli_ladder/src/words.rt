@@ -12,7 +12,7 @@ use lapd_trace::push_octets;
 use std::alloc::{AllocError, Global};
 
 /// Reads octets that `from` sent. If the sender is not known, they are read as the network's.
-pub(crate) fn reading_of(from: Option<Side>, octets: &[u8]) -> Result<Frame<'_>, FrameFault>
+pub fn reading_of(from: Option<Side>, octets: &[u8]) -> Result<Frame<'_>, FrameFault>
     ensures { result ≡ reading_of from octets.now }
 {
     lapd_frame::read(octets, from.unwrap_or(Side::Network))
