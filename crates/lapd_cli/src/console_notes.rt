@@ -1,8 +1,8 @@
 //! The console of a live session: notes to the person at the terminal.
 
 use lapd_cli_console::{Script, put_help, reason, tidied};
-use lapd_cli_io::Notes;
 use lapd_cli_live::Console;
+use lapd_cli_outputs::Notes;
 use std::alloc::{AllocError, Global};
 
 /// Notes which lines a command has, and what is wrong with a line.

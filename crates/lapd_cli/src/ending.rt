@@ -5,8 +5,8 @@ ghost use Rattle.std.specs.Prelude.{◌≡◌, ◌&&◌, IfNone, IfSome, if◌th
 ghost use Rattle.lapd_cli_script.specs.Script.{status_of as status_of_fault};
 
 use lapd_cli_console::{Escaped, EscapedLines, FaultReport, Script};
-use lapd_cli_io::{NoFile, NoTaps, Protection};
 use lapd_cli_options::{Clock, NoInvocation, WordsFault};
+use lapd_cli_outputs::{NoFile, NoTaps, Protection};
 use lapd_cli_script::{KindReason, Reason, ScriptFault};
 use std::fmt::Display;
 use std::io::{self, ErrorKind};

@@ -4,14 +4,13 @@ use crate::console_notes::ConsoleNotes;
 use crate::ending::Stop;
 use crate::job::{SideSetup, config_of};
 use lapd_cli_console::Script;
-use lapd_cli_io::{
-    BusSetup, ConnectionSetup, Connections, NoTaps, Notes, TapSetup, Taps, connect_side,
-};
+use lapd_cli_io::{BusSetup, ConnectionSetup, Connections, connect_side};
 use lapd_cli_live::{
     Impaired, LiveFault, LiveSide, LiveStop, Printer, Style, Tapped, frames_of_step, live_script,
     live_session,
 };
 use lapd_cli_options::{Interface, LiveOptions};
+use lapd_cli_outputs::{NoTaps, Notes, TapSetup, Taps};
 use lapd_cli_script::ScriptFault;
 use lapd_sides::{Acts, Config, EitherSide, NetSide, Request, Side, Timer, UserSide};
 use std::alloc::AllocError;

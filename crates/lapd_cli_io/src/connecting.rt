@@ -2,8 +2,8 @@
 
 use crate::connection;
 use crate::connections::Connections;
-use crate::notes::Notes;
 use crate::shared_bus::BusSetup;
+use lapd_cli_outputs::Notes;
 use lapd_frame::Side;
 use mio::net::{TcpListener, TcpStream};
 use std::io;

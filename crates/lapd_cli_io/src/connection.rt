@@ -1,6 +1,6 @@
 //! The TCP connections of the program, and their notes on standard error.
 
-use crate::notes::Notes;
+use lapd_cli_outputs::Notes;
 use lapd_cli_script::port_reason;
 use lapd_port::PortFault;
 use std::io::{self, ErrorKind, Read};

@@ -12,9 +12,9 @@ use crate::frame_stream::FrameStream;
 use crate::input::Input;
 use crate::lost::Lost;
 use crate::next_connections::{INCOMING, Incoming, NextConnections};
-use crate::notes::Notes;
 use crate::peers::{LostPeer, Peers};
 use crate::shared_bus::{BusSetup, ForeignUse, SharedBus};
+use lapd_cli_outputs::Notes;
 use lapd_cli_script::port_reason;
 use lapd_cli_wire::{
     Impairment, Incident, Lines, MOST_RECEIVED, Outside, Sending, Woken, is_reached,
