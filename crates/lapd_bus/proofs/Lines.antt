@@ -19,10 +19,6 @@ remove_past {X} (x ∷ xs) (suc i) past =
     let rest : length xs ≤ i = omega arith in
     ap (λ (ys : List X). x ∷ ys) (remove_past xs i rest)
 
-pub remove_first : {X : Type 0} (xs : List X) → remove xs 0 ≡ drop 1 xs
-remove_first [] = refl
-remove_first (x ∷ xs) = refl
-
 pub first_of : {X : Type 0} (xs : List X) (x : X) → slice_get xs 0 ≡ Some x
     → xs ≡ x ∷ drop 1 xs
 first_of [] x there = cc

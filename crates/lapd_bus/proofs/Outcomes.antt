@@ -16,12 +16,6 @@ module _ (A B : SideEvent → Type 0) (C D : Type 0) (happens : (e : SideEvent) 
   takes_so now line outcome.Nothing h = (h.0, stays h.1)
   takes_so now line (outcome.Refused fault) h = h
 
-  pub loses_so : (place : ℕ) (line : List (List ℕ)) (o : Outcome) → Loses place line A C o
-      → Loses place line B D o
-  loses_so place line outcome.Made h = (h.0, happens (Lose place) h.1)
-  loses_so place line outcome.Nothing h = (h.0, stays h.1)
-  loses_so place line (outcome.Refused fault) h = h
-
   pub expires_so : (now : ℕ) (served : Served) (o : Outcome) → Expires now served A C o
       → Expires now served B D o
   expires_so now served outcome.Made h =

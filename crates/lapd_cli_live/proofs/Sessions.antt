@@ -104,9 +104,6 @@ lines_of_last o [] none = lines_of_other o [] none.0
 lines_of_last o (p ∷ line) none =
     lines_of_other o (p ∷ line) none.0 ∙ ap (with_first o) (lines_of_last p line none.1)
 
-pub taken_none : (octets : List ℕ) → AreTaken [] octets octets
-taken_none octets = λ more. refl
-
 pub taken_more : (lines : List (List ℕ)) (line a b c : List ℕ) → AreTaken lines a b → HasNoFeed line
     → b ≡ line ++ 10 ∷ c → AreTaken (lines ++ line ∷ []) a c
 taken_more lines line a b c taken none is = λ more.
@@ -133,12 +130,6 @@ taken_both xs ys octets held rest left p q = λ more.
 
 -- ---- Executed lines.
 
-pub takes_none : {S : Type 0} (Waits : S → S → Type 0) (can : CanWait Waits)
-    (Does : List ℕ → S → S → Type 0) (octets : List ℕ) (n : ℕ) (a : S)
-    → TakesLines Waits Does octets octets n n a a
-takes_none Waits can Does octets n a =
-    record { lines = []; taken = taken_none octets; counted = omega arith; done = can.none a }
-
 pub takes_one : {S : Type 0} (Waits : S → S → Type 0) (can : CanWait Waits)
     (Does : List ℕ → S → S → Type 0) (before now left line : List ℕ) (n m k : ℕ) (a b c : S)
     → TakesLines Waits Does before now n m a b → IsFirstLine now (Some line) left → k ≡ m + 1
@@ -155,14 +146,6 @@ pub takes_line : (before now left line : List ℕ) (n m k : ℕ) (a b c : LiveSt
     → LineEnds (Ok tt) line m k b c → TakesLines Awaits DoesLine before left n k a c
 takes_line before now left line n m k a b c takes first ends =
     takes_one Awaits awaits_can DoesLine before now left line n m k a b c takes first ends.1 ends.0
-
-pub takes_all : {S : Type 0} (Waits : S → S → Type 0) (Does : List ℕ → S → S → Type 0)
-    (before now left : List ℕ) (n m : ℕ) (a b : S) → TakesLines Waits Does before now n m a b
-    → IsFirstLine now None left → TakesLines Waits Does before left n m a b × HasNoFeed left
-takes_all Waits Does before now left n m a b takes first = (
-  subst (λ (x : List ℕ). TakesLines Waits Does before x n m a b) (sym first.1) takes,
-  subst HasNoFeed (sym first.1) first.0,
-)
 
 -- ---- Lines that stop the input.
 
@@ -219,14 +202,6 @@ none_stops (Script (Port fault)) n a b q = tt
 
 -- ---- Answers of one line.
 
-pub line_stops : (result : Result ⊤ LiveStop) (stop : LiveStop) (octets : List ℕ) (n m : ℕ)
-    (a b : LiveState) → IsErrAnd result (λ x. x ≡ stop)
-    → ((behind : List (List ℕ)) → StopsBy stop n (octets ∷ behind) a b)
-    → LineEnds result octets n m a b
-line_stops (Ok done) stop octets n m a b is stops = absurd is
-line_stops (Err other) stop octets n m a b is stops =
-    λ behind. subst (λ (x : LiveStop). StopsBy x n (octets ∷ behind) a b) (sym is) (stops behind)
-
 pub this_stops : (why : Executed) (octets : List ℕ) (n number : ℕ) (a b : LiveState) → number ≡ n +
     1
     → is_passed_over octets ≡ false
@@ -279,21 +254,6 @@ pub record LeadsTo {S : Type 0} (Waits : S → S → Type 0) (Does : List ℕ �
   pub no_feed : HasNoFeed held
   pub so_far : IfSome initial (λ octets. (rest : List ℕ) × (now ≡ Some rest) × TakesLines Waits Does
       octets (held ++ rest) 0 n a b)
-
-pub leads_none : {S : Type 0} (Waits : S → S → Type 0) (can : CanWait Waits)
-    (Does : List ℕ → S → S → Type 0) (initial : Option (List ℕ)) (held : List ℕ) (a : S) → held ≡ []
-    → LeadsTo Waits Does initial initial held 0 a a
-leads_none Waits can Does None held a is =
-    record { no_feed = subst HasNoFeed (sym is) tt; so_far = tt }
-leads_none Waits can Does (Some octets) held a is = record {
-  no_feed = subst HasNoFeed (sym is) tt;
-  so_far = (
-    octets,
-    refl,
-    subst (λ (x : List ℕ). TakesLines Waits Does octets (x ++ octets) 0 0 a a) (sym is)
-        (takes_none Waits can Does octets 0 a),
-  );
-}
 
 pub takes_awaited : {S : Type 0} (Waits : S → S → Type 0) (can : CanWait Waits)
     (Does : List ℕ → S → S → Type 0) (before after : List ℕ) (n m : ℕ) (a b c : S)
@@ -494,20 +454,6 @@ end_stops (Some octets) now new held holds n end_reason serve_on result stop a b
     script_stops serve_on result stop (lines_of octets) a d is
     (last_stops stop octets holds n a c d w.1 w.0 (stops []))
 
--- an interrupted read returned no octets
-pub reads_nothing : (before after : Option (List ℕ)) (held : List ℕ) → Keeps before after
-    → ReadsPart true before after held held
-reads_nothing before after held preserves = (
-  [],
-  Consumes-kept before before after [] (Consumes-nil before) preserves,
-  sym (append-nil held),
-)
-
-pub reads_none : (before after : Option (List ℕ)) (part held : List ℕ) → Consumes before after part
-    → length part ≡ 0 → IsAtEnd after → ReadsPart false before after held held
-reads_none before after [] held consumes none end = (consumes, end, refl)
-reads_none before after (o ∷ part) held consumes none end = absurd (omega arith)
-
 -- ---- The outcome of a line.
 
 pub executed_as : (why : Executed) (octets : List ℕ) (lines : Lines) (own : ℕ) (asked : LiveLine)
@@ -596,14 +542,6 @@ types_quit tidy goes_on before now left line after a b c takes first types is = 
     subst (λ (xs : List (List ℕ)). Quits tidy xs a c) (sym next)
     (quits_after tidy t.lines line (lines_of (left ++ more)) a b c t.done
     (subst (λ (x : Bool). Types tidy line x b c) is types))
-
-pub types_all : (tidy : Tidy) (before now left : List ℕ) (a b : Session)
-    → (n : ℕ) × TakesLines AwaitsQuietly (TypesOn tidy) before now 0 n a b
-    → IsFirstLine now None left
-    → LinesType tidy true before left a b
-types_all tidy before now left a b takes first =
-    let all = takes_all AwaitsQuietly (TypesOn tidy) before now left 0 takes.0 a b takes.1 first in
-    (takes.0, all.0, all.1)
 
 -- ---- A whole session.
 

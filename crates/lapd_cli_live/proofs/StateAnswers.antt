@@ -85,17 +85,6 @@ management_printed timers t now (first ∷ words) a b is are some prints =
     subst (λ (x : Option Timers). HappenBeside (management_events x now) a b) (sym is)
     (subst (λ (x : List ℕ). HappenBeside (line_unless_empty x) a b) are prints)
 
--- no kept line begins with the words
-pub looks_out : (words : List ℕ) (ms : ℕ) (lines : Lines) (matched is : Bool) (a m b : LiveState)
-    → has_line words a.shown.kept ≡ false → m ≡ behind_line words a
-    → Expects words ms lines matched m b → matched ≡ is → LooksOut words ms lines is a b
-looks_out words ms lines matched is a m b none taken expects same = record {
-  none_kept = none;
-  expects =
-      subst (λ (x : LiveState). Expects words ms lines is x b) taken
-      (subst (λ (x : Bool). Expects words ms lines x m b) same expects);
-}
-
 -- the words of a line, put in their place
 pub finds_sought : (line words : List ℕ) (ms : ℕ) (lines : Lines) (matched is : Bool)
     (a b : LiveState) → line ≡ sought words a → matched ≡ is

@@ -106,14 +106,6 @@ one_printed line frames at frame text printed more grown within is says before n
     ∙ ap (λ (last : List ℕ). flat_map line (take at frames) ++ last) (sym says) in
     subst (Appends printed grown) (sym all) (Appends-trans printed more grown _ _ before now)
 
--- flushing the writer does not change its contents
-pub appends_preserved : (a b c : Option (List ℕ)) (text : List ℕ) → Appends a b text → Keeps b c
-    → Appends a c text
-appends_preserved None b c text p q = tt
-appends_preserved (Some x) None c text p q = absurd p
-appends_preserved (Some x) (Some y) None text p q = absurd q
-appends_preserved (Some x) (Some y) (Some z) text p q = q ∙ p
-
 pub on_both : {A E : Type 0} (r : Result A E) (P Q R : Type 0) → (P → Q → R) → OnOk r P → OnOk r Q
     → OnOk r R
 on_both (Ok done) P Q R f p q = f p q
@@ -206,27 +198,6 @@ all_expired now at old mid after_idle new preserved traced delivered start here 
     }
 
 -- ---- Requests.
-
--- a refused request has no output
-pub refused_nothing : (r : Request) (now : ℕ) (fault : SideFault) (old new : EitherSide)
-    (acts : Effects) → Answers r now (Err fault) old new acts → acts ≡ no_effects
-refused_nothing r now fault (either.Network old) (either.Network new) acts answers = answers.nothing
-refused_nothing r now fault (either.User old) (either.User new) acts answers = answers.nothing
-refused_nothing r now fault (either.Network old) (either.User new) acts answers = absurd answers
-refused_nothing r now fault (either.User old) (either.Network new) acts answers = absurd answers
-
-pub asks_line : (r : Request) (a b : AtWork) → Asks (line_request_of r) a b
-    → LineDoes (line_request_of r) a b
-asks_line (request.Establish id) a b asks = asks
-asks_line (request.Release id) a b asks = asks
-asks_line (request.Unit id octets) a b asks = asks
-asks_line (request.Give id message) a b asks = asks
-asks_line (request.Busy id on) a b asks = asks
-asks_line request.AskTei a b asks = asks
-asks_line (request.Check tei) a b asks = asks
-asks_line (request.Remove tei) a b asks = asks
-asks_line request.CheckAll a b asks = asks
-asks_line request.RemoveAll a b asks = asks
 
 -- ---- Lines.
 

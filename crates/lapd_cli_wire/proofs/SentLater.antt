@@ -30,18 +30,6 @@ pub record SomeSent (now : ℕ) (before after : Delays) (old new : Option (List 
   pub impairment : after.impairment ≡ before.impairment
   pub random : after.random ≡ before.random
 
-pub none_sent : (now : ℕ) (line : Delays) (old : Option (List IoEvent))
-    → SomeSent now line line old old
-none_sent now line old = record {
-  gone = [];
-  parts = refl;
-  due = All-nil (IsDue now);
-  sent = adds_none old;
-  latest = refl;
-  impairment = refl;
-  random = refl;
-}
-
 pub more_sent : (now : ℕ) (frame : DelayedFrame) (octets : List ℕ) (before mid after : Delays)
     (old new last : Option (List IoEvent))
     → SomeSent now before mid old new → frame.moment ≤ now → IsTakenOff frame mid after
@@ -161,10 +149,6 @@ pub record SomeRounds (until : Option ℕ) (before after : Delays)
   pub rounds : List (List IoEvent)
   pub are : AreRounds until rounds before after
   pub done : Adds old new (flat_map (λ (round : List IoEvent). round) rounds)
-
-pub no_rounds : (until : Option ℕ) (line : Delays) (old : Option (List IoEvent))
-    → SomeRounds until line line old old
-no_rounds until line old = record { rounds = []; are = refl; done = adds_none old }
 
 rounds_behind : (until : Option ℕ) (woken : Woken) (rounds : List (List IoEvent))
     (io_events : List IoEvent) (before mid after : Delays)
