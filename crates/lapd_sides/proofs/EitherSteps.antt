@@ -1,10 +1,9 @@
 -- The steps of a side of either kind, by its links.
 use Rattle.std.proofs.Common.{◌≡◌, ℕ, List, [], false, Some, None, Result, Ok, refl, sym, ap, subst, ◌∙◌}
-use Rattle.lapd_frame.specs.declared.frame_fault.FrameFault.{FrameFault}
 use Rattle.lapd_frame.specs.declared.predicted_frame.PredictedFrame.{PredictedFrame}
+use Rattle.lapd_frame.specs.declared.Side.{Side}
 use Rattle.lapd_frame.specs.declared.Side.TheVariants as side
-use Rattle.lapd_frame.specs.Frame.{Fields}
-use Rattle.lapd_frame.specs.PredictedFrame.{is_read_predictable, predicted_fields}
+use Rattle.lapd_frame.specs.PredictedFrame.{predicted_fields}
 use Rattle.lapd_frame.specs.Reading.{frame_at}
 use Rattle.lapd_link_definition.specs.Input.{Give}
 use Rattle.lapd_table.specs.declared.link_id.LinkId.{LinkId}
@@ -14,7 +13,7 @@ use Rattle.lapd_sides_links.specs.declared.link_set.LinkSet.{LinkSet}
 use Rattle.lapd_sides_links.specs.Effects.{Adds, Effects, no_effects}
 use Rattle.lapd_sides_links.specs.Links.{gives_at_once, in_links, link_acts}
 use Rattle.lapd_sides_links.specs.Messages.{Message, SendsAtOnce}
-use Rattle.lapd_sides_links.specs.Shown.{LinksDo, LinksHaveNone}
+use Rattle.lapd_sides_links.specs.Shown.{LinksDo, LinksHaveNone, ShowLinks}
 use Rattle.lapd_sides.specs.declared.either_side.EitherSide.{EitherSide}
 use Rattle.lapd_sides.specs.declared.either_side.EitherSide.TheVariants as either
 use Rattle.lapd_sides.specs.declared.links_and_timer.LinksAndTimer.{LinksAndTimer}
@@ -22,13 +21,12 @@ use Rattle.lapd_sides.specs.declared.request.Request.TheVariants as request
 use Rattle.lapd_sides.specs.Either.{Answers, PredictsNone, SendsNone, Takes, meant_by, served_of, side_of, with_served}
 use Rattle.lapd_sides.specs.Meant.{gives_to_link, gives_to_own_link, predicted_is_not_for_layer_3}
 use Rattle.lapd_sides.specs.Network.{network_rules}
-use Rattle.lapd_sides.specs.Shows.{Receive, are_predicted, frame_on_links, is_predicted_on_links}
+use Rattle.lapd_sides.specs.Shows.{Receive, are_predicted, frame_on_links}
 use Rattle.lapd_sides.specs.ShowsNetwork.{is_assigner}
 use Rattle.lapd_sides.specs.ShowsUser.{ShowTerminal}
 use Rattle.lapd_frame.specs.Address.{other_side}
 use Rattle.lapd_sides.specs.User.{own_link, user_rules}
 use Rattle.lapd_sides.proofs.Calling.{sends_so}
-use Rattle.lapd_sides.proofs.Predicted.{not_read_as_predictable}
 use Rattle.lapd_sides.proofs.Steps.{predicted, sends_none_by, sent}
 
 -- its link predicts a frame, and has processed it
@@ -43,26 +41,20 @@ takes_predicted (either.User code) served octets p now acts found does =
     predicted ShowTerminal user_rules predicted_is_not_for_layer_3 code served octets p now acts
     found does
 
--- its link does not predict it
-pub declines : (s : EitherSide) (octets : List ℕ) (p : PredictedFrame)
-    → frame_at (other_side (side_of s)) octets ≡ Ok (predicted_fields p)
-    → LinksHaveNone (served_of s).links (is_predicted_on_links (predicted_fields p))
-    → PredictsNone octets s
-declines (either.Network code) octets p found none = λ config s shown.
-    subst (λ (r : Result Fields FrameFault). are_predicted r s.served.links ≡ false) (sym found)
-    (none side.Network s.served.links shown.served.links)
-declines (either.User code) octets p found none = λ config s shown.
-    subst (λ (r : Result Fields FrameFault). are_predicted r s.served.links ≡ false) (sym found)
-    (none side.User s.served.links shown.served.links)
-
--- the octets are no frame that a link may predict
-pub declines_unread : (s : EitherSide) (octets : List ℕ)
-    → is_read_predictable (frame_at (other_side (side_of s)) octets) ≡ false
-    → PredictsNone octets s
-declines_unread (either.Network code) octets none = λ config s shown.
-    not_read_as_predictable _ s.served.links none
-declines_unread (either.User code) octets none = λ config s shown.
-    not_read_as_predictable _ s.served.links none
+-- the octets are not those of a frame that its link predicts
+pub declines : (s : EitherSide) (octets : List ℕ) (served : LinksAndTimer) (from : Side)
+    → served ≡ served_of s → from ≡ other_side (side_of s)
+    → LinksHaveNone served.links (are_predicted (frame_at from octets)) → PredictsNone octets s
+declines (either.Network code) octets served from own other none = λ config s shown.
+    subst (λ (f : Side). are_predicted (frame_at f octets) s.served.links ≡ false) other
+    (none side.Network s.served.links (subst
+    (λ (l : LinksAndTimer). ShowLinks side.Network l.links s.served.links) (sym own)
+    shown.served.links))
+declines (either.User code) octets served from own other none = λ config s shown.
+    subst (λ (f : Side). are_predicted (frame_at f octets) s.served.links ≡ false) other
+    (none side.User s.served.links (subst
+    (λ (l : LinksAndTimer). ShowLinks side.User l.links s.served.links) (sym own)
+    shown.served.links))
 
 -- the link that is meant has sent a message
 sends : (s : EitherSide) (links : LinkSet) (id own : LinkId) (message : Message) (now : ℕ)

@@ -4,7 +4,10 @@ use Rattle.lapd_frame.specs.declared.Side.{Side}
 use Rattle.lapd_frame.specs.declared.Address.{Address}
 use Rattle.lapd_frame.specs.declared.fault_kind.FaultKind.{FaultKind}
 use Rattle.lapd_frame.specs.declared.frame_fault.FrameFault.{FrameFault}
+use Rattle.lapd_frame.specs.declared.predicted_frame.PredictedFrame.{PredictedFrame}
 use Rattle.lapd_frame.specs.Frame.{Fields}
+use Rattle.lapd_frame.specs.PredictedFrame.{predicted_fields}
+use Rattle.lapd_frame.specs.Reading.{frame_at}
 use Rattle.lapd_link.specs.Link.{LinkRepresents}
 use Rattle.lapd_link.specs.declared.link.Link.{Link}
 use Rattle.lapd_link_definition.specs.End.{End}
@@ -122,6 +125,13 @@ is_predicted_on_links frame links =
 abbrev pub are_predicted : Result Fields FrameFault → Links → Bool
 are_predicted (Ok frame) links = is_predicted_on_links frame links
 are_predicted (Err fault) links = false
+
+-- They receive octets of this sender's, which are read as a frame of a kind that is predicted.
+pub record ReceivePredicted (from : Side) (octets : List ℕ) (now : ℕ) (old new : LinksAndTimer)
+    (given : Effects) : Type 0 where
+  pub frame : PredictedFrame
+  pub found : frame_at from octets ≡ Ok (predicted_fields frame)
+  pub received : Receive old new given (frame_on_links now (predicted_fields frame))
 
 -- ---- Expired timers.
 

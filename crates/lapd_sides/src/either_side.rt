@@ -9,7 +9,7 @@ ghost use Rattle.lapd_sides.specs.Requests.{without_message};
 
 use crate::links_and_timer::{LinksAndTimer, opposite};
 use crate::{Acts, Durations, NetSide, Request, SideFault, SideKind, UserSide};
-use lapd_frame::{Side, read_predicted};
+use lapd_frame::Side;
 use lapd_sides_links::AtOnce;
 use lapd_table::{LinkId, LinkTable};
 use lapd_timers::TimerSet;
@@ -122,10 +122,8 @@ impl EitherSide {
         ensures nothing { result ≡ false → acts.new ≡ acts.old }
     {
         // One body for both kinds: two would cost each of them registers.
-        match read_predicted(bytes, opposite(self.side())) {
-            Some(frame) => self.served().receive_predicted(&frame, now, acts),
-            None => false,
-        }
+        let from = opposite(self.side());
+        self.served().take_predicted(bytes, from, now, acts)
     }
 
     /// The links of the side, the timer of TEI management, and the number of discarded frames.

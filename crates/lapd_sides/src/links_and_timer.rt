@@ -4,7 +4,7 @@ ghost use Rattle.std.specs.Prelude.{◌≡◌, ◌≤◌, ◌<◌, ◌+◌, ◌+
 ghost use Rattle.std.specs.List.{All, filter_map};
 ghost use Rattle.lapd_timers.specs.Due.{all_stopped};
 ghost use Rattle.lapd_frame.specs.Fault.{is_for_link};
-ghost use Rattle.lapd_frame.specs.PredictedFrame.{predicted_fields};
+ghost use Rattle.lapd_frame.specs.Reading.{frame_at};
 ghost use Rattle.lapd_link_definition.specs.Input.{input_of};
 ghost use Rattle.lapd_table.specs.LinkTable.{IsFor};
 ghost use Rattle.lapd_tei.specs.Out.{IsInRange, tei_given, tei_freed};
@@ -16,10 +16,10 @@ ghost use Rattle.lapd_sides_links.specs.Shown.{LinksHaveNone};
 ghost use Rattle.lapd_sides.specs.Management.{carries_message, is_unit_to_group, one_more};
 ghost use Rattle.lapd_sides.specs.Requests.{without_message};
 ghost use Rattle.lapd_frame.specs.Address.{other_side};
-ghost use Rattle.lapd_sides.specs.Shows.{ShowServed, Become, ShowAsBefore, CarryOut, Receive, StepLinks, ExpireFirst, frame_on_links, fault_on_links, is_predicted_on_links, with_given_links};
+ghost use Rattle.lapd_sides.specs.Shows.{ShowServed, Become, ShowAsBefore, CarryOut, Receive, StepLinks, ExpireFirst, frame_on_links, fault_on_links, are_predicted, ReceivePredicted, with_given_links};
 
 use crate::{Acts, Config, Primitive, RunningTimer, SideFault, SideKind};
-use lapd_frame::{Control, Frame, FrameFault, N201, PredictedFrame, Sapi, Side, Tei};
+use lapd_frame::{Control, Frame, FrameFault, N201, Sapi, Side, Tei, read_predicted};
 use lapd_link::Event;
 use lapd_sides_links::{LinkSet, due};
 use lapd_table::LinkId;
@@ -133,29 +133,30 @@ impl LinksAndTimer {
         self.act_or_discard(&id, Event::Heard(frame), frame.info(), now, acts);
     }
 
-    /// Passes a frame to the link that it is addressed to, if the link predicts it. The results are
-    /// appended to `acts`. Otherwise it returns `false`, and nothing is changed.
+    /// Processes octets that `from` sent, if they are a frame that its link predicts: an I frame that
+    /// is expected next, an acknowledgement or a poll, in state 7
+    /// ([`lapd_link::Link::predicted_step`]). The results are appended to `acts`. Otherwise it
+    /// returns `false`, and nothing is changed.
     #[inline(always)]
-    pub fn receive_predicted(
-        &mut self,
-        frame: &PredictedFrame<'_>,
-        now: u64,
-        acts: &mut Acts,
-    ) -> bool
+    pub fn take_predicted(&mut self, bytes: &[u8], from: Side, now: u64, acts: &mut Acts) -> bool
         requires room { HasRoomForPredicted acts.old }
-        requires fits { length frame.now.info.now ≤ N201 }
-        ensures received { result ≡ true → Adds acts.old acts.new (λ given.
-            Receive self.old self.new given (frame_on_links now (predicted_fields frame.now))) }
-        ensures declined { result ≡ false → LinksHaveNone self.old.links
-            (is_predicted_on_links (predicted_fields frame.now)) }
+        ensures taken { result ≡ true → Adds acts.old acts.new (λ given.
+            ReceivePredicted from bytes.now now self.old self.new given) }
+        ensures declined { result ≡ false
+            → LinksHaveNone self.old.links (are_predicted (frame_at from bytes.now)) }
         ensures unchanged { result ≡ false → self.new ≡ self.old }
         ensures nothing { result ≡ false → acts.new ≡ acts.old }
     {
-        let id = LinkId {
-            sapi: frame.sapi,
-            tei: frame.tei,
-        };
-        self.links.act_predicted(&id, frame, now, acts)
+        match read_predicted(bytes, from) {
+            Some(frame) => {
+                let id = LinkId {
+                    sapi: frame.sapi,
+                    tei: frame.tei,
+                };
+                self.links.act_predicted(&id, &frame, now, acts)
+            }
+            None => false,
+        }
     }
 
     /// Passes a fault of a frame to the link that the frame is addressed to. Octets for no link are

@@ -1,8 +1,6 @@
 //! A side, network or user.
 
 ghost use Rattle.std.specs.Prelude.{◌≡◌, ◌⊎◌, ◌≤◌, ◌<◌, ◌++◌, true, false, length, [], None, Some, Ok, IfErr, option_copied};
-ghost use Rattle.lapd_frame.specs.Address.{other_side};
-ghost use Rattle.lapd_frame.specs.Reading.{frame_at};
 ghost use Rattle.lapd_link_definition.specs.Input.{input_of};
 ghost use Rattle.lapd_table.specs.LinkTable.{IsFor};
 ghost use Rattle.lapd_sides_links.specs.declared.acts.TheConstants.{MOST_PRIMITIVES};
@@ -12,7 +10,7 @@ ghost use Rattle.lapd_sides_links.specs.Messages.{SendsAtOnce, WithMessage};
 ghost use Rattle.lapd_sides_links.specs.Rooms.{HasRoomForPredicted, IsEmpty};
 ghost use Rattle.lapd_sides.specs.Calls.{Answers, EachShown, Expires, Grants, Receives, SetsDurations, SideDoes, SideStaysIdle};
 ghost use Rattle.lapd_sides.specs.Requests.{LacksMessage, message_of, without_message};
-ghost use Rattle.lapd_sides.specs.Shows.{are_predicted, ShowEnds};
+ghost use Rattle.lapd_sides.specs.Shows.{ShowEnds};
 ghost use Rattle.lapd_sides.specs.ShowsSide.{Shows};
 ghost use Rattle.lapd_sides.specs.SideState.{data_received, expires, frame_received, given_for, given_for_frame, link_of, primitive_of_group, sends_at_once, takes};
 
@@ -21,7 +19,7 @@ use crate::{
     Acts, Config, Durations, Management, Octets, Primitive, Represented, Request, SideFault,
     SideKind, What,
 };
-use lapd_frame::{Frame, N201, Sapi, Tei, read, read_predicted};
+use lapd_frame::{Frame, N201, Sapi, Tei, read};
 use lapd_link::Event;
 use lapd_sides_links::{AtOnce, next_deadline};
 use lapd_table::{LinkId, LinkTable};
@@ -62,30 +60,11 @@ impl<M: Management> ManagedSide<M> {
         ensures err { IfErr result (λ fault. fault ≡ without_message SideKind.Memory) }
     {
         acts.clear();
-        if self.take_predicted(bytes, now, acts) {
+        let from = opposite(M::side());
+        if self.served.take_predicted(bytes, from, now, acts) {
             return Ok(());
         }
         self.take_any(bytes, now, acts)
-    }
-
-    /// Processes octets, if they are a frame that its link predicts: an I frame that is expected
-    /// next, an acknowledgement or a poll, in state 7 ([`lapd_link::Link::predicted_step`]). The
-    /// results are appended to `acts`. Otherwise it returns `false`, and nothing is changed.
-    #[inline(always)]
-    pub(crate) fn take_predicted(&mut self, bytes: &[u8], now: u64, acts: &mut Acts) -> bool
-        requires room { HasRoomForPredicted acts.old }
-        ensures taken { result ≡ true → Adds acts.old acts.new (λ given.
-            SideDoes (Shows M.represents M.rules) self.old self.new given
-            (λ config. takes M.rules config bytes.now now)) }
-        ensures declined { result ≡ false → EachShown (Shows M.represents M.rules) self.old (λ s.
-            are_predicted (frame_at (other_side M.rules.side) bytes.now) s.served.links ≡ false) }
-        ensures unchanged { result ≡ false → self.new ≡ self.old }
-        ensures nothing { result ≡ false → acts.new ≡ acts.old }
-    {
-        match read_predicted(bytes, opposite(M::side())) {
-            Some(frame) => self.served.receive_predicted(&frame, now, acts),
-            None => false,
-        }
     }
 
     /// Processes any octets, predicted or not.
