@@ -7,7 +7,7 @@
 #![tactic(auto)]
 
 use lapd_cli_answer::{Params, Side, answer};
-use lapd_cli_console::{FaultReport, RecentLines, Script, Watched};
+use lapd_cli_console::{FaultReport, OUTPUT_NAME, RecentLines, Script, Watched};
 use lapd_cli_script::ScriptFault;
 use lapd_frame::{Sapi, Tei};
 use std::io::BufWriter;
@@ -42,8 +42,7 @@ fn main(rt: HostRuntime) -> ExitCode {
         },
         input: recent.fault(),
         output: watched.fault(),
-        output_name: "standard output",
+        output_name: OUTPUT_NAME,
     };
-    report.print(&rt, fault);
-    ExitCode::from(fault.status())
+    ExitCode::from(report.end(&rt, fault))
 }

@@ -4,7 +4,9 @@
 ghost use Rattle.std.specs.Prelude.{◌≡◌, ◌&&◌, IfNone, IfSome, if◌then◌else◌};
 ghost use Rattle.lapd_cli_script.specs.Script.{status_of as status_of_fault};
 
-use lapd_cli_console::{Escaped, EscapedLines, FaultReport, Script};
+use lapd_cli_console::{
+    Escaped, EscapedLines, FaultReport, OUTPUT_NAME, READER_GONE, Script, is_reader_gone,
+};
 use lapd_cli_options::{Clock, NoInvocation, WordsFault};
 use lapd_cli_outputs::{NoFile, NoTaps, Protection};
 use lapd_cli_script::{KindReason, Reason, ScriptFault};
@@ -69,6 +71,9 @@ pub fn print_ending(rt: &HostRuntime, ending: &Ending<'_>, ended: &Result<(), St
             Some(ScriptFault::Device)
         }
         Err(Stop::NoTaps(taps)) => return print_no_taps(rt, ending, taps),
+        Err(Stop::Script(fault)) if ending.report.is_reader_gone(*fault) => {
+            return ExitCode::from(READER_GONE);
+        }
         Err(Stop::Script(fault)) => {
             print_script_fault(rt, ending, *fault);
             Some(*fault)
@@ -267,7 +272,15 @@ fn show(rt: &HostRuntime, text: &str) -> ExitCode {
     let Err(error) = print!(rt; "{text}") else {
         return ExitCode::SUCCESS;
     };
+    print_no_output_text(rt, error.kind())
+}
+
+/// Reports that standard output could not be written, unless its reader has ended.
+pub fn print_no_output_text(rt: &HostRuntime, kind: ErrorKind) -> ExitCode {
+    if is_reader_gone(OUTPUT_NAME, Some(kind)) {
+        return ExitCode::from(READER_GONE);
+    }
     let _ = eprintln!(rt; "{}", ScriptFault::Device);
-    let _ = eprintln!(rt; "standard output: {}", KindReason(error.kind()));
+    let _ = eprintln!(rt; "{OUTPUT_NAME}: {}", KindReason(kind));
     ExitCode::from(ScriptFault::Device.status())
 }

@@ -6,6 +6,19 @@ use lapd_cli_grammar::Script;
 use lapd_cli_script::{KindReason, PortFault, ScriptFault, port_reason};
 use std::io::ErrorKind;
 
+/// The exit status if the reader of standard output has ended: the one that a shell shows for a
+/// process that SIGPIPE ended.
+pub const READER_GONE: u8 = 141;
+
+/// The name of standard output in messages.
+pub const OUTPUT_NAME: &str = "standard output";
+
+/// Whether a write to the output of this name failed because the reader of standard output has
+/// ended, as `head` does.
+pub fn is_reader_gone(output_name: &str, fault: Option<ErrorKind>) -> bool {
+    matches!(fault, Some(ErrorKind::BrokenPipe)) && output_name == OUTPUT_NAME
+}
+
 /// The facts known about a script that has ended, and about its streams.
 #[derive(Clone, Copy)]
 pub struct FaultReport<'a> {
@@ -22,6 +35,23 @@ pub struct FaultReport<'a> {
 }
 
 impl FaultReport<'_> {
+    /// Whether this fault is that the reader of standard output has ended.
+    pub fn is_reader_gone(&self, fault: ScriptFault) -> bool {
+        matches!((fault, self.input), (ScriptFault::Device, None))
+            && is_reader_gone(self.output_name, self.output)
+    }
+
+    /// Prints the fault on the first line and the reason on the second, and returns the exit status.
+    /// Nothing is printed if the reader of standard output has ended. Failed writes to standard
+    /// error are ignored.
+    pub fn end(&self, rt: &HostRuntime, fault: ScriptFault) -> u8 {
+        if self.is_reader_gone(fault) {
+            return READER_GONE;
+        }
+        self.print(rt, fault);
+        fault.status()
+    }
+
     /// Prints the fault on the first line and the reason on the second. Failed writes to standard
     /// error are ignored.
     pub fn print(&self, rt: &HostRuntime, fault: ScriptFault) {

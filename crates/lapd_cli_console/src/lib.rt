@@ -29,7 +29,7 @@ mod watched;
 
 pub use answers::{Answers, PrintedAnswers};
 pub use escaped::{Escaped, EscapedLines};
-pub use fault_report::FaultReport;
+pub use fault_report::{FaultReport, OUTPUT_NAME, READER_GONE, is_reader_gone};
 pub use help::put_help;
 pub use judge::reason;
 pub use lapd_cli_grammar::Script;
