@@ -153,10 +153,10 @@ impl<'a> Connections<'a> {
         self.idle_limit = limit;
     }
 
-    /// Notes that the other side has closed the only connection, if it has and everything it sent
-    /// was read.
+    /// Notes that the other side has closed the only connection, if it has, everything it sent was
+    /// read, and this was not noted when it was seen.
     pub fn print_closed(&self) {
-        if self.next_connections.is_nowhere() && self.peers.is_closed() {
+        if self.next_connections.is_nowhere() && !self.is_closed && self.peers.is_closed() {
             self.notes.print(port_reason(PortFault::End));
         }
     }
@@ -251,11 +251,15 @@ impl<'a> Connections<'a> {
         }
     }
 
-    /// Handles a lost connection. If no other connection can take its place, the side ends.
+    /// Handles a lost connection. If no other connection can take its place, the side ends, and that
+    /// is noted at once.
     fn lose(&mut self, lost: LostPeer) -> Result<(), PortFault> {
         match (self.next_connections.is_nowhere(), lost.why.fault()) {
             (true, PortFault::End) => {
-                self.is_closed = true;
+                if !self.is_closed {
+                    self.is_closed = true;
+                    self.notes.print(port_reason(PortFault::End));
+                }
                 Ok(())
             }
             (true, fault) => Err(fault),
