@@ -20,11 +20,11 @@ _lapd() {
                 return
             fi
             ;;
-        --pcap | --svg) mapfile -t COMPREPLY < <(compgen -f -- "$word"); return ;;
-        --tei | --k | --n200 | --room | --terminals | --idle-limit | --audit | --t20? | --seed | --count) return ;;
+        --pcap | --svg | --html | --write) mapfile -t COMPREPLY < <(compgen -f -- "$word"); return ;;
+        --tei | --k | --n200 | --room | --terminals | --idle-limit | --audit | --t20? | --seed | --count | --call) return ;;
         --listen | --connect | --gsmtap) return ;;
     esac
-    if [[ -z $offered && ${COMP_WORDS[1]} == decode && $word == [!-]* ]]; then
+    if [[ -z $offered && ${COMP_WORDS[1]} == decode && $word != -* ]]; then
         mapfile -t COMPREPLY < <(compgen -f -- "$word")
         return
     fi
@@ -46,7 +46,8 @@ _lapd() {
                     ;;
                 decode)
                     offered+=" --loose --sender --names --no-octets --json --keep-going --pcap --follow --ladder --svg --k"
-                    offered+=" --time --count --sapi --tei --kinds --no-polls --any-sapi --color"
+                    offered+=" --html --write --calls --summary --violations"
+                    offered+=" --time --count --sapi --tei --call --kinds --no-polls --any-sapi --color"
                     ;;
                 help) offered=$commands ;;
                 *) return ;;

@@ -2,8 +2,8 @@
 
 use crate::ending::{print_memory, print_violation};
 use crate::job::{follow_of, frames_of};
-use crate::picture::{Output, begin_picture, close_output, end_picture};
-use lapd_cli_console::{Escaped, Watched};
+use crate::output::{Output, Text, begin_text, close_output, end_text};
+use lapd_cli_console::{Escaped, READER_GONE, Watched, is_reader_gone};
 use lapd_cli_decode::{
     CaptureReader, CaptureStop, CaptureStyle, Follow, ReadFault, Seen, decode_capture,
     follow_capture,
@@ -66,8 +66,7 @@ fn print_capture<R: Read>(
     strict: bool,
     output: Output<'_>,
 ) -> ExitCode {
-    let Output { writer, name } = output;
-    let is_picture = writer.is_picture();
+    let Output { writer, text, name } = output;
     let how = CaptureStyle {
         frames: frames_of(rt, options, options.time_in_capture()),
         sender: options.sender,
@@ -76,7 +75,7 @@ fn print_capture<R: Read>(
     let Ok(mut out) = BufWriter::new(rt.alloc(), Watched::new(writer)) else {
         return print_memory(rt);
     };
-    let ended = print_framed(rt, capture, is_picture, &mut out, how, follow_of(options));
+    let ended = print_framed(rt, capture, text, &mut out, how, follow_of(options));
     // Text that a failed writer did not accept is dropped.
     let (watched, _left) = out.into_parts();
     let is_read = ended.is_ok();
@@ -91,23 +90,23 @@ fn print_capture<R: Read>(
         }
         Err(stop) => print_stop(rt, file, stop, watched.fault(), name),
     };
-    close_output(rt, watched.into_inner(), name, is_read, status)
+    close_output(rt, watched.into_inner(), text, name, is_read, status)
 }
 
-// Prints the frames of a capture, between the beginning and the end of a picture if one is drawn.
+// Prints the frames of a capture, between the beginning and the end of their text.
 fn print_framed<R: Read, W: Write>(
     rt: &HostRuntime,
     capture: &mut CaptureReader<R>,
-    is_picture: bool,
+    text: Text,
     out: &mut W,
     how: CaptureStyle,
     follow: Option<Follow>,
 ) -> Result<Seen, CaptureStop> {
-    if !begin_picture(is_picture, out) {
+    if !begin_text(text, out) {
         return Err(CaptureStop::Device);
     }
     let ended = print_frames(rt, capture, out, how, follow);
-    let is_written = end_picture(is_picture, out) && out.flush().is_ok();
+    let is_written = end_text(text, out) && out.flush().is_ok();
     match ended {
         Ok(_) if !is_written => Err(CaptureStop::Device),
         ended => ended,
@@ -163,6 +162,9 @@ fn print_stop(
             return ExitCode::from(UNREADABLE);
         }
         (CaptureStop::Input(kind), _) => return print_no_file(rt, file, &KindReason(kind)),
+        (CaptureStop::Device, kind) if is_reader_gone(output_name, kind) => {
+            return ExitCode::from(READER_GONE);
+        }
         (CaptureStop::Device, Some(kind)) => {
             let _ = eprintln!(rt; "{stop}");
             let name = Escaped(output_name);

@@ -2,7 +2,7 @@
 
 use crate::capture::{STANDARD_INPUT, UNREADABLE, print_no_file, read_capture};
 use crate::ending::{COMMAND_LINE, print_memory};
-use crate::picture::{Output, standard_output};
+use crate::output::{Output, printed_output};
 use crate::run_script;
 use lapd_capture::{FileKind, KIND_OCTETS, ReadFault, kind_of_file, take_front};
 use lapd_cli_console::Escaped;
@@ -17,8 +17,8 @@ const WANTED: &str = "\
 decode reads captures (pcap, pcapng), lines such as user 00817f, and with --loose logs and hex dumps";
 
 /// Prints the frames of these files, one file after the other, and reports how that ended. The
-/// status is that of the first file that failed. One file is printed to this output, several to
-/// standard output.
+/// status is that of the first file that failed. One file is printed to this output, and each of
+/// several by itself.
 pub fn run_files(
     rt: &HostRuntime,
     chosen: &Invocation<'_>,
@@ -34,7 +34,7 @@ pub fn run_files(
         if !options.json {
             let _ = println!(rt; "==> {} <==", Escaped(file));
         }
-        let ended = run_file(rt, chosen, file, options, standard_output(rt));
+        let ended = run_file(rt, chosen, file, options, printed_output(rt, chosen));
         if status == ExitCode::SUCCESS {
             status = ended;
         }

@@ -170,7 +170,8 @@ fn run_decode<R: Read, W: Write>(
     strict: bool,
 ) -> Result<(), Stop> {
     let frames = frames_of(rt, options, PrintedTime::Hidden);
-    if options.loose
+    if frames.layout != Layout::Lines
+        || options.loose
         || options.follow.is_some()
         || frames.filter.is_some()
         || frames.any_sapi
@@ -278,6 +279,8 @@ fn layout_of(options: DecodeOptions) -> Layout {
         PrintedLayout::Lines => Layout::Lines,
         PrintedLayout::Ladder => Layout::Drawn(Drawing::Ladder),
         PrintedLayout::Picture => Layout::Drawn(Drawing::Picture),
+        PrintedLayout::Page => Layout::Drawn(Drawing::Page),
+        PrintedLayout::Capture | PrintedLayout::Calls => Layout::Drawn(Drawing::Records),
     }
 }
 

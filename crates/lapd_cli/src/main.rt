@@ -19,7 +19,7 @@ mod files;
 mod greeting;
 mod job;
 mod live;
-mod picture;
+mod output;
 
 use capture::run_capture;
 use ending::{Ending, Stop, print_ending, print_memory, print_no_invocation, print_words_fault};
@@ -29,7 +29,7 @@ use job::{run_job, script_of};
 use lapd_cli_console::{FaultReport, PrintedAnswers, RecentLines, Refusals, Session, Watched};
 use lapd_cli_options::{Clock, DecodeOptions, Invocation, Job, parse_words, words};
 use lapd_cli_script::ScriptFault;
-use picture::{Output, begin_picture, close_output, end_picture, output_of};
+use output::{Output, Text, begin_text, close_output, end_text, output_of};
 use std::io::{BufWriter, IsTerminal, Read, Write};
 use std::process::ExitCode;
 
@@ -53,7 +53,7 @@ fn for_input<'a>(rt: &HostRuntime, chosen: Invocation<'a>) -> Invocation<'a> {
     }
 }
 
-// Runs the chosen job. Its output is written to standard output, or to the file of its picture.
+// Runs the chosen job. Its output is written to standard output, or to a file.
 fn run_chosen(rt: &HostRuntime, chosen: &Invocation<'_>) -> ExitCode {
     match output_of(rt, chosen) {
         Ok(output) => run_output(rt, chosen, output),
@@ -120,14 +120,13 @@ pub fn run_script<R: Read + Drop>(
     reader: R,
     destination: Output<'_>,
 ) -> ExitCode {
-    let Output { writer, name } = destination;
-    let is_picture = writer.is_picture();
+    let Output { writer, text, name } = destination;
     let mut recent = RecentLines::new(reader);
     let watched = Watched::new(Refusals::new(writer, chosen.strict));
     let Ok(mut out) = BufWriter::new(rt.alloc(), watched) else {
         return print_memory(rt);
     };
-    let ended = run_framed(rt, chosen, is_picture, &mut recent, &mut out);
+    let ended = run_framed(rt, chosen, text, &mut recent, &mut out);
     // Text that a failed writer did not accept is dropped.
     let (watched, _left) = out.into_parts();
     let output = watched.fault();
@@ -149,7 +148,7 @@ pub fn run_script<R: Read + Drop>(
     };
     let status = print_ending(rt, &ending, &ended);
     let is_read = matches!(ended, Ok(()) | Err(Stop::Violated));
-    close_output(rt, refusals.into_inner(), name, is_read, status)
+    close_output(rt, refusals.into_inner(), text, name, is_read, status)
 }
 
 // Whether the job reads lines of more forms.
@@ -160,19 +159,19 @@ fn is_loose(job: &Job) -> bool {
     }
 }
 
-// Runs the chosen job, between the beginning and the end of a picture if it draws one.
+// Runs the chosen job, between the beginning and the end of its text.
 fn run_framed<R: Read, W: Write>(
     rt: &HostRuntime,
     chosen: &Invocation<'_>,
-    is_picture: bool,
+    text: Text,
     script: &mut R,
     out: &mut W,
 ) -> Result<(), Stop> {
-    if !begin_picture(is_picture, out) {
+    if !begin_text(text, out) {
         return Err(Stop::Script(ScriptFault::Device));
     }
     let ended = run_job(rt, chosen, script, out);
-    if !end_picture(is_picture, out) && ended.is_ok() {
+    if !end_text(text, out) && ended.is_ok() {
         return Err(Stop::Script(ScriptFault::Device));
     }
     ended

@@ -132,6 +132,11 @@ impl CallTable {
         None
     }
 
+    /// Whether there was no call.
+    pub fn is_empty(&self) -> bool {
+        self.calls.is_empty()
+    }
+
     /// Writes the line of each call, and how many calls the table lacks.
     ///
     /// # Errors

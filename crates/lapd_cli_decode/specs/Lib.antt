@@ -1,4 +1,5 @@
 pub mod AnySapi
+pub mod CallFilter
 pub mod Captured
 pub mod Color
 pub mod Decoder
@@ -12,6 +13,7 @@ pub mod LogSenders
 pub mod Loose
 pub mod Missing
 pub mod PrintedLines
+pub mod Record
 pub mod Remarked
 pub mod Senders
 pub mod Sent

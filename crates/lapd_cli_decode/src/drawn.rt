@@ -1,11 +1,15 @@
-//! The part of a ladder or a picture for a frame.
+//! The part of a ladder, a picture, a page or a pcap file for a frame.
 
-ghost use Rattle.std.specs.Prelude.{◌≡◌, ◌++◌, IfOk, OnOk};
-ghost use Rattle.lapd_cli_decode.specs.Drawn.{drawn_frame, drawn_part, head_before};
+ghost use Rattle.std.specs.Prelude.{◌≡◌, ◌++◌, ◌&&◌, flat_map, IfOk, OnOk};
+ghost use Rattle.lapd_cli_decode.specs.Color.{is_violation};
+ghost use Rattle.lapd_cli_decode.specs.Drawn.{drawn_frame, drawn_part, head_before, ladder_of, red_if, red_lines, red_octet};
+ghost use Rattle.lapd_cli_ladder.specs.Ladder.{frame_lines};
 ghost use Rattle.lapd_cli_decode.specs.Remarked.{RemarkedEnds};
 
 use crate::frame_style::{Drawing, FrameStyle};
+use crate::record::push_record;
 use lapd_cli_ladder::{LadderStyle, push_head, push_notes, push_picture_part, push_rung};
+use lapd_cli_page::push_page_part;
 use lapd_cli_render::Packet;
 use lapd_cli_script::LineFault;
 use lapd_follow::{Listener, Remarks};
@@ -70,10 +74,12 @@ fn push_part(
 {
     match drawing {
         Drawing::Ladder => {
-            let style = how.ladder();
-            push_head_before(text, style, printed)?;
-            push_rung(alloc, text, style, packet, time, from, octets, listener)?;
-            push_notes(alloc, text, style, packet, from, octets, said)
+            push_head_before(text, how.ladder(), printed)?;
+            let mut lines = Vec::new(alloc);
+            push_lines(
+                alloc, &mut lines, how, packet, time, from, octets, said, listener,
+            )?;
+            push_red_if(text, is_red(how.is_colored, said), lines.as_slice())
         }
         Drawing::Picture => push_picture_part(
             alloc,
@@ -87,6 +93,81 @@ fn push_part(
             said,
             listener,
         ),
+        Drawing::Page => push_page_part(
+            alloc, text, printed, how.count, packet, from, octets, said, listener,
+        ),
+        Drawing::Records => push_record(text, packet, from, octets),
+    }
+}
+
+/// Appends the lines of a ladder for octets.
+fn push_lines(
+    alloc: Global,
+    text: &mut Vec<u8>,
+    how: &FrameStyle,
+    packet: Packet,
+    time: &[u8],
+    from: Option<Side>,
+    octets: &[u8],
+    said: &Option<Remarks>,
+    listener: &Option<Listener>,
+) -> Result<(), AllocError>
+    ensures { OnOk result (text.new.items ≡ text.old.items ++ frame_lines (ladder_of how.now) packet
+        time.now from octets.now said.now listener.now) }
+{
+    let style = how.ladder();
+    push_rung(alloc, text, style, packet, time, from, octets, listener)?;
+    push_notes(alloc, text, style, packet, from, octets, said)
+}
+
+/// Whether the lines of a frame are red: one of its remarks is a violation.
+fn is_red(is_colored: bool, said: &Option<Remarks>) -> bool
+    ensures { result ≡ (is_violation said.now && is_colored) }
+{
+    match said {
+        None => false,
+        Some(said) => said.has_violation() && is_colored,
+    }
+}
+
+/// Appends lines, in red if that is requested.
+fn push_red_if(text: &mut Vec<u8>, is_red: bool, lines: &[u8]) -> Result<(), AllocError>
+    ensures { OnOk result (text.new.items ≡ text.old.items ++ red_if is_red lines.now) }
+{
+    if is_red {
+        push_red(text, lines)
+    } else {
+        text.extend_from_slice(lines)
+    }
+}
+
+/// Appends lines in red, each by itself.
+fn push_red(text: &mut Vec<u8>, lines: &[u8]) -> Result<(), AllocError>
+    ensures { OnOk result (text.new.items ≡ text.old.items ++ red_lines lines.now) }
+{
+    text.extend_from_slice(b"\x1b[31m")?;
+    push_red_octets(text, lines)?;
+    text.extend_from_slice(b"\x1b[0m")
+}
+
+/// Appends the octets of lines in red.
+fn push_red_octets(text: &mut Vec<u8>, lines: &[u8]) -> Result<(), AllocError>
+    ensures { OnOk result (text.new.items ≡ text.old.items ++ flat_map red_octet lines.now) }
+{
+    for octet in lines {
+        push_red_octet(text, *octet)?;
+    }
+    Ok(())
+}
+
+/// Appends an octet of lines in red.
+fn push_red_octet(text: &mut Vec<u8>, octet: u8) -> Result<(), AllocError>
+    ensures { OnOk result (text.new.items ≡ text.old.items ++ red_octet octet) }
+{
+    if octet == b'\n' {
+        text.extend_from_slice(b"\x1b[0m\n\x1b[31m")
+    } else {
+        text.extend_from_slice(&[octet])
     }
 }
 

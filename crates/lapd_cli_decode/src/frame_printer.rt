@@ -157,7 +157,11 @@ impl FramePrinter {
     /// Whether the layout has no place for the number of missing frames, if there are `total` of
     /// them and some are missing here.
     pub(crate) fn hides_missing(&self, total: u64) -> bool {
-        self.missing < total && self.how.layout == Layout::Drawn(Drawing::Picture)
+        self.missing < total
+            && matches!(
+                self.how.layout,
+                Layout::Drawn(Drawing::Picture | Drawing::Records)
+            )
     }
 
     /// How many frames are missing here, if there are `total` of them.
@@ -214,7 +218,7 @@ impl FramePrinter {
             return Err(LineFault::Memory);
         };
         self.frames = self.frames.saturating_add(1);
-        if self.how.takes(octets) {
+        if self.how.takes(is_followed, &said, octets) {
             self.show(is_followed, &said, packet, from, octets, out)
         } else {
             Ok(())

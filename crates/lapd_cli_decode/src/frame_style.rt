@@ -1,11 +1,14 @@
 ghost use Rattle.std.specs.Prelude.{◌≡◌};
 ghost use Rattle.lapd_cli_decode.specs.Drawn.{ladder_of};
-ghost use Rattle.lapd_cli_decode.specs.Filter.{reaches, takes_by};
+ghost use Rattle.lapd_cli_decode.specs.Filter.{reaches, takes_by, takes_said};
+ghost use Rattle.lapd_cli_decode.specs.Frames.{said_if};
 
+use crate::call_filter::is_of_call;
 use crate::frame_time::FrameTime;
 use crate::style::Style;
 use lapd_cli_ladder::LadderStyle;
 use lapd_cli_values::Filter;
+use lapd_follow::Remarks;
 
 /// The layout of the output.
 #[derive(Clone, Copy, Debug, PartialEq, Eq)]
@@ -23,6 +26,10 @@ pub enum Drawing {
     Ladder,
     /// The same as a picture (SVG), without its beginning and its end.
     Picture,
+    /// The rows of a page for a browser, without its beginning and its end.
+    Page,
+    /// The records of a pcap file of link type 177, without its head.
+    Records,
 }
 
 /// How frames are printed, and which.
@@ -66,13 +73,13 @@ impl FrameStyle {
         }
     }
 
-    /// Whether a frame of these octets is printed.
-    pub(crate) fn takes(&self, octets: &[u8]) -> bool
-        ensures { result ≡ takes_by self.now.filter octets.now }
+    /// Whether a frame of these octets, with these remarks if links are followed, is printed.
+    pub(crate) fn takes(&self, is_followed: bool, said: &Remarks, octets: &[u8]) -> bool
+        ensures { result ≡ takes_by self.now.filter (said_if is_followed said.now) octets.now }
     {
         match &self.filter {
             None => true,
-            Some(filter) => filter.takes(octets),
+            Some(filter) => takes_said(filter, is_followed, said, octets),
         }
     }
 
@@ -85,4 +92,13 @@ impl FrameStyle {
             Some(count) => count <= printed,
         }
     }
+}
+
+/// Whether this filter takes a frame of these octets, with these remarks if links are followed.
+fn takes_said(filter: &Filter, is_followed: bool, said: &Remarks, octets: &[u8]) -> bool
+    ensures { result ≡ takes_said filter.now (said_if is_followed said.now) octets.now }
+{
+    filter.takes(octets)
+        && is_of_call(filter.call, octets)
+        && (!filter.only_violations || is_followed && said.has_violation())
 }

@@ -6,12 +6,15 @@
 //! lines. [`print_lines`] reads lines of any [`LineForm`] and prints the frames that a
 //! [`FrameStyle`] requests, and [`decode_capture`] those of a capture of `lapd_capture`. If links
 //! are followed, which [`follow_capture`] does for a capture, the remarks of a listener of
-//! `lapd_follow` are printed behind each frame, and a table of each link at the end. With [`Layout::Drawn`] the frames are drawn as a ladder, or as a picture between
-//! [`PICTURE_BEGIN`] and [`PICTURE_END`]. A [`FrameDrawer`] draws the same ladder of the frames of
+//! `lapd_follow` are printed behind each frame, and a table of each link at the end. With [`Layout::Drawn`] the
+//! frames are drawn as a ladder, or as a picture between
+//! [`PICTURE_BEGIN`] and [`PICTURE_END`], as a page between
+//! [`PAGE_BEGIN`] and [`PAGE_END`], or as the records of a pcap file. A [`FrameDrawer`] draws the same ladder of the frames of
 //! a line, when they are sent or received.
 #![tactic(auto)]
 
 mod any_sapi;
+mod call_filter;
 mod capture_lines;
 mod color;
 mod drawn;
@@ -29,6 +32,7 @@ mod live_laws;
 mod loose;
 mod missing;
 mod printed_lines;
+mod record;
 mod remarked;
 mod senders;
 mod shown;
@@ -42,8 +46,9 @@ pub use frame_printer::Follow;
 pub use frame_style::{Drawing, FrameStyle, Layout};
 pub use frame_time::FrameTime;
 pub use joined_dumps::JoinedDumps;
-pub use lapd_capture::{CaptureFault, CaptureReader, PacketFault, ReadFault};
+pub use lapd_capture::{CaptureFault, CaptureReader, FILE_HEADER, PacketFault, ReadFault};
 pub use lapd_cli_ladder::{PICTURE_BEGIN, PICTURE_END};
+pub use lapd_cli_page::{PAGE_BEGIN, PAGE_END};
 pub use lapd_cli_values::Filter;
 pub use lapd_frame::Side;
 pub use laws::{both_read_alike, sender_is_found};

@@ -4,9 +4,12 @@ ghost use Rattle.std.specs.Prelude.{◌≡◌, Some, IfOk};
 ghost use Rattle.std.specs.String.{string_bytes};
 ghost use Rattle.lapd_cli_decode.specs.Missing.{missing_by, missing_object, missing_text, missing_words};
 ghost use Rattle.lapd_cli_decode.specs.Remarked.{RemarkedEnds};
+ghost use Rattle.lapd_cli_page.specs.Row.{missing_row};
 
+use crate::drawn::put_text;
 use crate::frame_style::{Drawing, Layout};
 use crate::style::Style;
+use lapd_cli_page::push_missing_row;
 use lapd_cli_script::{LineFault, put_line};
 use std::alloc::{AllocError, Global};
 use std::fmt;
@@ -32,7 +35,8 @@ impl fmt::Display for Missing {
     }
 }
 
-/// Prints how many frames are missing here as a line; nothing in a picture, which has no place for it.
+/// Prints how many frames are missing here as a line, or as a row of a page; nothing in a
+/// picture or a pcap file, which have no place for it.
 ///
 /// # Errors
 ///
@@ -51,8 +55,20 @@ pub(crate) fn put_missing<W: Write>(
         Layout::Lines | Layout::Drawn(Drawing::Ladder) => put_missing_line(
             alloc, style, count, out,
         ),
-        Layout::Drawn(Drawing::Picture) => Ok(()),
+        Layout::Drawn(Drawing::Page) => put_missing_row(alloc, count, out),
+        Layout::Drawn(Drawing::Picture | Drawing::Records) => Ok(()),
     }
+}
+
+/// Prints how many frames are missing here as a row of a page.
+fn put_missing_row<W: Write>(alloc: Global, count: u64, out: &mut W) -> Result<(), LineFault>
+    ensures { RemarkedEnds (missing_row count) result (W.contents out.old) (W.contents out.new) }
+{
+    let mut row = Vec::new(alloc);
+    let Ok(()) = push_missing_row(alloc, &mut row, count) else {
+        return Err(LineFault::Memory);
+    };
+    put_text(row.as_slice(), out)
 }
 
 /// Prints how many frames are missing here as a line.

@@ -89,6 +89,8 @@ fn style_of(words: &str) -> FrameStyle {
             s: kinds.contains('s'),
             u: kinds.contains('u'),
             polls: true,
+            call: None,
+            only_violations: false,
         }),
         any_sapi: false,
         is_colored: false,

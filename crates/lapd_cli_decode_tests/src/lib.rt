@@ -24,6 +24,8 @@ mod names;
 #[cfg(test)]
 mod objects;
 #[cfg(test)]
+mod outputs;
+#[cfg(test)]
 mod read;
 #[cfg(test)]
 mod senders;

@@ -11,7 +11,7 @@ use Rattle.lapd_cli_options.specs.declared.invocation.Clock.TheVariants.{Script,
 use Rattle.lapd_cli_options.specs.declared.invocation.LiveOptions.{LiveOptions}
 use Rattle.lapd_cli_options.specs.declared.invocation.DecodeOptions.{DecodeOptions}
 use Rattle.lapd_cli_options.specs.declared.invocation.PrintedLayout.{PrintedLayout}
-use Rattle.lapd_cli_options.specs.declared.invocation.PrintedLayout.TheVariants.{Lines, Ladder, Picture}
+use Rattle.lapd_cli_options.specs.declared.invocation.PrintedLayout.TheVariants.{Lines, Ladder, Picture, Page, Capture, Calls}
 use Rattle.lapd_cli_options.specs.declared.invocation.PrintedTime.{PrintedTime}
 use Rattle.lapd_cli_options.specs.declared.invocation.PrintedTime.TheVariants.{Hidden, Absolute, Relative, Delta, Day}
 use Rattle.lapd_cli_options.specs.declared.invocation.Job.{Job}
@@ -83,6 +83,9 @@ abbrev pub time_by : PrintedLayout → PrintedTime → PrintedTime
 time_by Lines time = time
 time_by Ladder time = drawn_time time
 time_by Picture time = drawn_time time
+time_by Page time = drawn_time time
+time_by Capture time = drawn_time time
+time_by Calls time = drawn_time time
 
 abbrev pub time_in_capture : DecodeOptions → PrintedTime
 time_in_capture options = time_by options.layout options.time

@@ -71,18 +71,14 @@ fn loop_of<'a>(given: &ArgMatches<'a>) -> Result<Job, NoInvocation<'a>> {
     Ok(Job::Loop { user, network })
 }
 
-/// The file that replaces the script of this command, if the option is present.
-pub(crate) fn pcap_of<'a>(command: ScriptCommand, given: &ArgMatches<'a>) -> Option<&'a str> {
+/// The file of this option of `decode`, if the option is present.
+pub(crate) fn file_of<'a>(
+    command: ScriptCommand,
+    given: &ArgMatches<'a>,
+    option: &str,
+) -> Option<&'a str> {
     match command {
-        ScriptCommand::Decode => given.get_str("pcap"),
-        _ => None,
-    }
-}
-
-/// The file of the picture that this command draws, if the option is present.
-pub(crate) fn svg_of<'a>(command: ScriptCommand, given: &ArgMatches<'a>) -> Option<&'a str> {
-    match command {
-        ScriptCommand::Decode => given.get_str("svg"),
+        ScriptCommand::Decode => given.get_str(option),
         _ => None,
     }
 }

@@ -74,6 +74,15 @@ answered. In the arrow are SAPI, TEI and the fields; below it are the remarks. T
 A frame whose sender is not known is a line between two ?, without a head. --svg draws the same into
 a file, on pages of 25 frames, 10000 frames at most without --count.
 
+--html writes a page for a browser, which loads nothing: the ladder with search, filters and
+folding, and the octets of a frame beside their fields. --write writes the frames as pcap, so that
+Wireshark opens a log. With - as the file of --svg, --html or --write the output is standard output.
+
+With --calls a line for each call of Q.931 has its reference and link, the words of its information
+elements, when it was set up and answered, how long it lasted, and how it ended. The options that
+choose frames choose the calls. With --violations only frames that violate Q.921 are printed, and
+with --summary only the tables.
+
 With --json a line is an object with these members, in the order of their names:
   direction        \"U>N\" or \"N>U\", if the sender is known
   sapi, tei        numbers

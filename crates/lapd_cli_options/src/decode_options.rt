@@ -8,19 +8,37 @@ use crate::option_tables::KINDS;
 use crate::script_command::ScriptCommand;
 use clap::ArgMatches;
 use lapd_cli_values::{
-    COUNT, FOLLOWED_K, Filter, NumberOption, PRINTED_SAPI, PRINTED_TEI, Side, number_written,
-    window_written,
+    COUNT, FOLLOWED_K, Filter, NumberOption, PRINTED_CALL, PRINTED_SAPI, PRINTED_TEI, Side,
+    number_written, window_written,
 };
 use std::alloc::Global;
 
 /// The frames of a picture without `--count`: a browser shows a picture of some megabytes.
 const PICTURE_FRAMES: u64 = 10_000;
 
+/// The layouts that options choose, in the order in which two of them are refused.
+const LAYOUTS: [PrintedLayout; 5] = [
+    PrintedLayout::Ladder,
+    PrintedLayout::Picture,
+    PrintedLayout::Page,
+    PrintedLayout::Capture,
+    PrintedLayout::Calls,
+];
+
+/// No flags.
+const NO_FLAGS: &[&str] = &[];
+
+/// The flags of lines alone.
+const LINE_FLAGS: &[&str] = &["json", "any-sapi", "summary"];
+
+/// The flags of frames that are printed or drawn.
+const FRAME_FLAGS: &[&str] = &["json", "any-sapi", "summary", "names", "follow"];
+
 /// The options of `decode` among these.
 pub(crate) fn decode_of<'a>(given: &ArgMatches<'a>) -> Result<DecodeOptions, NoInvocation<'a>> {
     let layout = layout_of(given)?;
     let follow = follow_of(given)?;
-    let time = time_of(given)?;
+    let time = time_of(given, layout)?;
     let count = count_of(given, layout)?;
     let no_octets = no_octets_of(given, layout)?;
     let frames = frames_of(given)?;
@@ -58,31 +76,63 @@ fn sender_of(given: &ArgMatches<'_>) -> Option<Side> {
     }
 }
 
-// The layout of the frames. They are printed, drawn or pictured. Objects and frames of other SAPIs
-// are not drawn.
+// The layout of the frames, which one option chooses at most. Objects, tables and frames of other
+// SAPIs have lines alone.
 fn layout_of<'a>(given: &ArgMatches<'a>) -> Result<PrintedLayout, NoInvocation<'a>> {
-    let layout = match (given.get_flag("ladder"), given.get_str("svg")) {
-        (false, None) => return Ok(PrintedLayout::Lines),
-        (true, Some(_)) => return Err(NoInvocation::NotBoth("ladder", "svg")),
-        (true, None) => PrintedLayout::Ladder,
-        (false, Some(_)) => PrintedLayout::Picture,
-    };
-    if given.get_flag("json") {
-        return Err(NoInvocation::NotBoth(option_of(layout), "json"));
+    let mut layout = PrintedLayout::Lines;
+    for other in LAYOUTS {
+        if is_chosen(given, other) {
+            if layout != PrintedLayout::Lines {
+                return Err(NoInvocation::NotBoth(option_of(layout), option_of(other)));
+            }
+            layout = other;
+        }
     }
-    if given.get_flag("any-sapi") {
-        return Err(NoInvocation::NotBoth(option_of(layout), "any-sapi"));
-    }
+    refuse_flags(given, layout)?;
     Ok(layout)
 }
 
-// After how many printed frames the output ends. A picture has an end.
+// Whether this layout is requested.
+fn is_chosen(given: &ArgMatches<'_>, layout: PrintedLayout) -> bool {
+    match layout {
+        PrintedLayout::Lines => false,
+        PrintedLayout::Ladder | PrintedLayout::Calls => given.get_flag(option_of(layout)),
+        PrintedLayout::Picture | PrintedLayout::Page | PrintedLayout::Capture => {
+            given.get_str(option_of(layout)).is_some()
+        }
+    }
+}
+
+// Refuses the flags that this layout has no place for.
+fn refuse_flags<'a>(given: &ArgMatches<'a>, layout: PrintedLayout) -> Result<(), NoInvocation<'a>> {
+    for flag in flags_without(layout) {
+        if given.get_flag(flag) {
+            return Err(NoInvocation::NotBoth(option_of(layout), flag));
+        }
+    }
+    Ok(())
+}
+
+// The flags that a layout has no place for.
+fn flags_without(layout: PrintedLayout) -> &'static [&'static str] {
+    match layout {
+        PrintedLayout::Lines => NO_FLAGS,
+        PrintedLayout::Ladder | PrintedLayout::Picture | PrintedLayout::Page => LINE_FLAGS,
+        PrintedLayout::Capture | PrintedLayout::Calls => FRAME_FLAGS,
+    }
+}
+
+// After how many printed frames the output ends. A picture and a page have an end. Tables alone
+// print no frames.
 fn count_of<'a>(
     given: &ArgMatches<'a>,
     layout: PrintedLayout,
 ) -> Result<Option<u64>, NoInvocation<'a>> {
     match (number_of(given, COUNT)?, layout) {
-        (None, PrintedLayout::Picture) => Ok(Some(PICTURE_FRAMES)),
+        (None, PrintedLayout::Picture | PrintedLayout::Page) => Ok(Some(PICTURE_FRAMES)),
+        (Some(_), _) if given.get_flag("summary") => {
+            Err(NoInvocation::NotBoth("summary", "count"))
+        }
         (count, _) => Ok(count),
     }
 }
@@ -108,24 +158,32 @@ fn no_octets_of<'a>(
     }
 }
 
-// The option of a drawing.
+// The option of a layout other than lines.
 fn option_of(layout: PrintedLayout) -> &'static str {
     match layout {
         PrintedLayout::Picture => "svg",
+        PrintedLayout::Page => "html",
+        PrintedLayout::Capture => "write",
+        PrintedLayout::Calls => "calls",
         PrintedLayout::Lines | PrintedLayout::Ladder => "ladder",
     }
 }
 
-// Whether the frames are drawn.
-fn is_drawn(given: &ArgMatches<'_>) -> bool {
-    given.get_flag("ladder") || given.get_str("svg").is_some()
+// Whether an option needs the links to be followed.
+fn follows(given: &ArgMatches<'_>) -> bool {
+    given.get_flag("follow")
+        || given.get_flag("summary")
+        || given.get_flag("violations")
+        || given.get_flag("ladder")
+        || given.get_str("svg").is_some()
+        || given.get_str("html").is_some()
 }
 
 // How the links are followed: for a drawing they always are. An option of `--follow` is refused
 // without it.
 fn follow_of<'a>(given: &ArgMatches<'a>) -> Result<Option<FollowOptions>, NoInvocation<'a>> {
     let k = window_of(given)?;
-    if given.get_flag("follow") || is_drawn(given) {
+    if follows(given) {
         return Ok(Some(FollowOptions { k }));
     }
     match k {
@@ -142,8 +200,12 @@ fn window_of<'a>(given: &ArgMatches<'a>) -> Result<Option<u8>, NoInvocation<'a>>
     }
 }
 
-// The requested time of each frame. A script on standard input has none.
-fn time_of<'a>(given: &ArgMatches<'a>) -> Result<PrintedTime, NoInvocation<'a>> {
+// The requested time of each frame. A script on standard input has none, and a page, a capture and
+// a table of calls have their own.
+fn time_of<'a>(
+    given: &ArgMatches<'a>,
+    layout: PrintedLayout,
+) -> Result<PrintedTime, NoInvocation<'a>> {
     let time = match given.get_str("time") {
         Some("absolute") => PrintedTime::Absolute,
         Some("relative") => PrintedTime::Relative,
@@ -151,6 +213,12 @@ fn time_of<'a>(given: &ArgMatches<'a>) -> Result<PrintedTime, NoInvocation<'a>> 
         Some("day") => PrintedTime::Day,
         _ => return Ok(PrintedTime::Hidden),
     };
+    if matches!(
+        layout,
+        PrintedLayout::Page | PrintedLayout::Capture | PrintedLayout::Calls
+    ) {
+        return Err(NoInvocation::NotBoth("time", option_of(layout)));
+    }
     if given.get_str("pcap").is_some() || has_files(given) {
         Ok(time)
     } else {
@@ -180,8 +248,10 @@ pub(crate) fn files_of<'a>(
     if !named.is_empty() && given.get_str("pcap").is_some() {
         return Err(NoInvocation::PcapAndFile);
     }
-    if named.len() > 1 && given.get_str("svg").is_some() {
-        return Err(NoInvocation::OneFile("svg"));
+    for option in ["svg", "html", "write"] {
+        if named.len() > 1 && given.get_str(option).is_some() {
+            return Err(NoInvocation::OneFile(option));
+        }
     }
     match files.extend_from_slice(named) {
         Ok(()) => Ok(files),
@@ -189,18 +259,28 @@ pub(crate) fn files_of<'a>(
     }
 }
 
-// Which frames are printed.
+// Which frames are printed: of tables alone none.
 fn frames_of<'a>(given: &ArgMatches<'a>) -> Result<Filter, NoInvocation<'a>> {
+    let (is_summary, only_violations) = (given.get_flag("summary"), given.get_flag("violations"));
+    if is_summary && only_violations {
+        return Err(NoInvocation::NotBoth("summary", "violations"));
+    }
     let sapi = octet_of(given, PRINTED_SAPI)?;
     let tei = octet_of(given, PRINTED_TEI)?;
+    let call = match number_of(given, PRINTED_CALL)? {
+        Some(number) => u16::try_from(number).ok(),
+        None => None,
+    };
     let kinds = kinds_of(given)?;
     Ok(Filter {
         sapi,
         tei,
-        i: kinds.contains('i'),
-        s: kinds.contains('s'),
-        u: kinds.contains('u'),
+        i: !is_summary && kinds.contains('i'),
+        s: !is_summary && kinds.contains('s'),
+        u: !is_summary && kinds.contains('u'),
         polls: !given.get_flag("no-polls"),
+        call,
+        only_violations,
     })
 }
 

@@ -115,6 +115,22 @@ pub const SVG: &str = "\
 Draws the same into this file, as a picture (SVG) that a browser shows, of
 10000 frames at most without --count";
 
+pub const HTML: &str = "\
+Writes this file, a page for a browser with the frames, their octets and
+fields, and what --follow says, of 10000 frames at most without --count";
+
+pub const WRITE: &str = "\
+Writes the frames to this file, as pcap of link type 177 (LINUX_LAPD) with
+their senders and times, and prints none";
+
+pub const CALLS: &str = "Prints a table of the calls of Q.931 in place of the frames";
+
+pub const SUMMARY: &str = "Prints only the tables of --follow";
+
+pub const VIOLATIONS: &str = "\
+Prints only frames that violate Q.921, with the remarks and the tables of
+--follow";
+
 pub const FRAME_TIME: &str = "\
 Begins each trace line of a capture with the time in seconds: since 1970,
 since the first printed frame, or since the printed frame before; or with
@@ -237,4 +253,5 @@ Exit status:
   5  with --strict: the script was executed to its end, and `refused` was printed for a line, or
      with --follow of `decode` a frame violates Q.921; with --clock real: an expected line was not
      printed in time
+  141  the reader of standard output has ended, as `head` does: nothing is reported
 The text of a status is printed on standard error. For 1, 3 and 5 a second line has the reason.";

@@ -17,6 +17,10 @@ pub struct Invocation<'a> {
     pub pcap: Option<&'a str>,
     /// The file of `decode --svg`, unchanged from the command line.
     pub svg: Option<&'a str>,
+    /// The file of `decode --html`, unchanged from the command line.
+    pub html: Option<&'a str>,
+    /// The file of `decode --write`, unchanged from the command line.
+    pub write: Option<&'a str>,
     /// The clock of `net` or `user`.
     pub clock: Clock<'a>,
     /// Whether `net` or `user` name no clock, so that it is the real one at a terminal
@@ -179,6 +183,12 @@ pub enum PrintedLayout {
     Ladder,
     /// A ladder as a picture, in the file of `--svg`.
     Picture,
+    /// A page for a browser, in the file of `--html`.
+    Page,
+    /// A capture, in the file of `--write`.
+    Capture,
+    /// A table of the calls, without the frames.
+    Calls,
 }
 
 /// The time before each trace line of a capture.
@@ -233,6 +243,8 @@ impl Invocation<'_> {
             files: Vec::new(alloc),
             pcap: None,
             svg: None,
+            html: None,
+            write: None,
             clock: Clock::Script,
             is_clock_open: false,
             json: false,

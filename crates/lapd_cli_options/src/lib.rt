@@ -20,10 +20,11 @@ mod option_tables;
 mod parser;
 mod program_words;
 mod script_command;
+mod tips;
 
 use clap::{ArgMatches, Command};
 use clock_options::{clock_of, is_clock_open};
-use command_options::{address_of, job_of, pcap_of, prints_json, svg_of};
+use command_options::{address_of, file_of, job_of, prints_json};
 use decode_options::files_of;
 pub use invocation::{
     Clock, Color, DecodeOptions, FollowOptions, Invocation, Job, LiveOptions, PrintedLayout,
@@ -40,6 +41,7 @@ pub use program_words::{WordsFault, words};
 use script_command::ScriptCommand;
 use std::alloc::Global;
 use std::convert::AsStr;
+use tips::with_tip;
 
 /// Reads the program's words, the first of which is its name. No further word means `answer --side
 /// net`.
@@ -73,7 +75,18 @@ fn invocation_of<'a, S: AsStr>(
 ) -> Result<Invocation<'a>, NoInvocation<'a>> {
     match program.try_get_matches_from_mut(words) {
         Ok(matches) => invocation_by(alloc, program, &matches),
-        Err(error) => Err(refused_by_parser(alloc, &error)),
+        Err(error) => {
+            let refused = refused_by_parser(alloc, &error);
+            Err(with_tip(alloc, command_in(words), refused))
+        }
+    }
+}
+
+// The word at the place of a command.
+fn command_in<S: AsStr>(words: &[S]) -> &str {
+    match words {
+        [_, command, ..] => command.as_str(),
+        _ => "",
     }
 }
 
@@ -106,8 +119,10 @@ fn invocation_with<'a>(
         job,
         address: address_of(command, given),
         files: files_of(alloc, command, given)?,
-        pcap: pcap_of(command, given),
-        svg: svg_of(command, given),
+        pcap: file_of(command, given, "pcap"),
+        svg: file_of(command, given, "svg"),
+        html: file_of(command, given, "html"),
+        write: file_of(command, given, "write"),
         clock,
         is_clock_open: is_clock_open(command, given),
         json: prints_json(command, given),

@@ -5,8 +5,8 @@ use crate::command_option::{CommandOption, WordOption};
 use crate::help;
 use lapd_cli_values::{
     AUDIT, CONNECT, CONNECTED_TERMINALS, COUNT, FIXED_TEI, FOLLOWED_K, GSMTAP, IDLE_LIMIT, K,
-    KNOWN_TEI, LINK_TEI, LINKS_K, LISTEN, N200, PRINTED_SAPI, PRINTED_TEI, ROOM, SEED, T200, T201,
-    T202, T203, TERMINALS,
+    KNOWN_TEI, LINK_TEI, LINKS_K, LISTEN, N200, PRINTED_CALL, PRINTED_SAPI, PRINTED_TEI, ROOM,
+    SEED, T200, T201, T202, T203, TERMINALS,
 };
 
 /// The options of `answer`.
@@ -88,11 +88,17 @@ pub(crate) const DECODE: &[&[CommandOption]] = &[
         CommandOption::Flag("follow", help::FOLLOW),
         CommandOption::Flag("ladder", help::LADDER),
         CommandOption::File("svg", help::SVG),
+        CommandOption::File("html", help::HTML),
+        CommandOption::File("write", help::WRITE),
+        CommandOption::Flag("calls", help::CALLS),
+        CommandOption::Flag("summary", help::SUMMARY),
+        CommandOption::Flag("violations", help::VIOLATIONS),
         CommandOption::BareNumber(FOLLOWED_K),
         CommandOption::Word(FRAME_TIME),
         CommandOption::BareNumber(COUNT),
         CommandOption::BareNumber(PRINTED_SAPI),
         CommandOption::BareNumber(PRINTED_TEI),
+        CommandOption::BareNumber(PRINTED_CALL),
         CommandOption::Words(KINDS),
         CommandOption::Flag("no-polls", help::NO_POLLS),
         CommandOption::Flag("any-sapi", help::ANY_SAPI),

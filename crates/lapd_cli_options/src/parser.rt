@@ -39,6 +39,9 @@ fn unknown_text(alloc: Global, word: &str) -> Result<String, AllocError> {
         Some(command) => format!(in alloc;
             "unrecognized subcommand '{word}'\n\n  tip: a similar subcommand exists: '{command}'"
         ),
+        None if word.contains('.') => format!(in alloc;
+            "unrecognized subcommand '{word}'\n\n  tip: lapd decode {word} prints the frames of a file"
+        ),
         None => format!(in alloc; "unrecognized subcommand '{word}'"),
     }
 }

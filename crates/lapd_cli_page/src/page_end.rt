@@ -8,7 +8,7 @@ pub const PAGE_END: &str = r##"null]</script>
 
 const byId = id => document.getElementById(id);
 const rows = JSON.parse(byId('data').textContent);
-const limit = rows[0] && rows[0].limit || 0;
+const limit = (rows.find(row => row && row.limit) || {limit: 0}).limit;
 const items = [];
 for (const row of rows) {
   if (typeof row === 'number') items.push({missing: row});

@@ -81,6 +81,14 @@ lapd decode --ladder --pcap a --sender user => decode follow ladder from user
 lapd decode --ladder --pcap a --time absolute => decode follow ladder absolute
 lapd decode --svg b => decode follow picture count 10000
 lapd decode --pcap a --svg=b --count 2 => decode follow picture count 2
+lapd decode --html b => decode follow page count 10000
+lapd decode a --html=b --count 2 --k 7 => decode follow 7 page count 2 of a
+lapd decode --write b a => decode capture of a
+lapd decode --write=- --violations --tei 64 a => decode follow capture tei 64 isu polls violations of a
+lapd decode --calls a b => decode calls of a b
+lapd decode --summary a => decode follow  polls of a
+lapd decode --call 32767 a => decode isu polls call 32767 of a
+lapd decode --violations --names --count 1 => decode follow count 1 isu polls violations
 lapd decode a => decode of a
 lapd decode a - --follow b => decode follow of a - b
 lapd decode --time delta a --svg b => decode follow picture delta count 10000 of a
@@ -205,6 +213,9 @@ lapd decode --help => a text
 lapd --version => a text
 lapd -V => a text
 lapd foo --side => refused error: unrecognized subcommand 'foo'~~Usage: lapd [COMMAND]~~For more information, try '--help'.~
+lapd call.pcap => refused error: unrecognized subcommand 'call.pcap'~~  tip: lapd decode call.pcap prints the frames of a file~~Usage: lapd [COMMAND]~~For more information, try '--help'.~
+lapd decode -r a => refused error: unexpected argument '-r' found~~  tip: a file needs no option: lapd decode FILE~~Usage: lapd decode [OPTIONS] [FILE]...~~For more information, try '--help'.~
+lapd user --listen a:1 => refused error: unexpected argument '--listen' found~~  tip: the user side connects: --connect ADDRESS; `lapd net` waits~~Usage: lapd user [OPTIONS] --connect <ADDRESS>~~For more information, try '--help'.~
 lapd anwser => refused error: unrecognized subcommand 'anwser'~~  tip: a similar subcommand exists: 'answer'~~Usage: lapd [COMMAND]~~For more information, try '--help'.~
 lapd answer --k 0 => error: invalid value '0' for '--k <FRAMES>': not a number from 1 to 127 in decimal digits~
 lapd pair --k 128 => error: invalid value '128' for '--k <FRAMES>': not a number from 1 to 127 in decimal digits~
@@ -237,10 +248,20 @@ lapd decode --ladder --json => error: --ladder cannot be used with --json~
 lapd decode --svg a --json => error: --svg cannot be used with --json~
 lapd decode --ladder --any-sapi => error: --ladder cannot be used with --any-sapi~
 lapd decode --svg a --ladder => error: --ladder cannot be used with --svg~
+lapd decode --html a --svg b => error: --svg cannot be used with --html~
+lapd decode --calls --write a => error: --write cannot be used with --calls~
+lapd decode --calls --json => error: --calls cannot be used with --json~
+lapd decode --write a --follow b => error: --write cannot be used with --follow~
+lapd decode --html a --time day b => error: --time cannot be used with --html~
+lapd decode a b --write c => error: --write takes one FILE~
+lapd decode --summary --ladder => error: --ladder cannot be used with --summary~
+lapd decode --summary --violations => error: --summary cannot be used with --violations~
+lapd decode --summary --count 3 => error: --summary cannot be used with --count~
 lapd decode --count 0 => error: invalid value '0' for '--count <FRAMES>': not a number from 1 to 18446744073709551615 in decimal digits~
 lapd decode --count 18446744073709551616 => error: invalid value '18446744073709551616' for '--count <FRAMES>': not a number from 1 to 18446744073709551615 in decimal digits~
 lapd decode --sapi 64 => error: invalid value '64' for '--sapi <SAPI>': not a number from 0 to 63 in decimal digits~
 lapd decode --tei 128 => error: invalid value '128' for '--tei <TEI>': not a number from 0 to 127 in decimal digits~
+lapd decode --call 32768 => error: invalid value '32768' for '--call <REFERENCE>': not a number from 0 to 32767 in decimal digits~
 lapd decode --kinds s,i,x => error: invalid value 's,i,x' for '--kinds <KINDS>': not a list of i, s and u~
 lapd decode --kinds su => error: invalid value 'su' for '--kinds <KINDS>': not a list of i, s and u~
 lapd decode --kinds i, => error: invalid value 'i,' for '--kinds <KINDS>': not a list of i, s and u~
@@ -430,6 +451,9 @@ fn show_output(text: &mut String, options: &DecodeOptions) {
         PrintedLayout::Lines => "",
         PrintedLayout::Ladder => " ladder",
         PrintedLayout::Picture => " picture",
+        PrintedLayout::Page => " page",
+        PrintedLayout::Capture => " capture",
+        PrintedLayout::Calls => " calls",
     });
     let _ = text.push_str(match options.time {
         PrintedTime::Hidden => "",
@@ -470,6 +494,14 @@ fn show_frames(text: &mut String, frames: &Filter) {
     let _ = text.push_str(if frames.s { "s" } else { "" });
     let _ = text.push_str(if frames.u { "u" } else { "" });
     let _ = text.push_str(if frames.polls { " polls" } else { "" });
+    if let Some(call) = frames.call {
+        let _ = write!(text, " call {call}");
+    }
+    let _ = text.push_str(if frames.only_violations {
+        " violations"
+    } else {
+        ""
+    });
 }
 
 fn show_ends(text: &mut String, job: &str, one: &Params, other: &Params) {

@@ -23,6 +23,8 @@ fn preserves(rt: &HostRuntime, job: Job, text: &str) -> Result<(), Fail> {
         files: Vec::new(rt.alloc()),
         pcap: None,
         svg: None,
+        html: None,
+        write: None,
         clock: Clock::Script,
         is_clock_open: false,
         json: false,

@@ -104,6 +104,8 @@ fn run_decode<R: Read, W: Write>(
                 PrintedLayout::Lines => Layout::Lines,
                 PrintedLayout::Ladder => Layout::Drawn(Drawing::Ladder),
                 PrintedLayout::Picture => Layout::Drawn(Drawing::Picture),
+                PrintedLayout::Page => Layout::Drawn(Drawing::Page),
+                PrintedLayout::Capture | PrintedLayout::Calls => Layout::Drawn(Drawing::Records),
             },
             style,
             time: FrameTime::Hidden,

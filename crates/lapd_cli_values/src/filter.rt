@@ -16,6 +16,11 @@ pub struct Filter {
     pub u: bool,
     /// Whether supervisory frames with P or F 1 are printed.
     pub polls: bool,
+    /// The call reference of a message of Q.931, 0 to 32,767; any, and none, if `None`. This and the
+    /// next field are not looked at by [`Filter::takes`], which takes other frames as well.
+    pub call: Option<u16>,
+    /// Whether only frames that violate Q.921 are printed.
+    pub only_violations: bool,
 }
 
 impl Filter {
@@ -27,6 +32,8 @@ impl Filter {
         s: true,
         u: true,
         polls: true,
+        call: None,
+        only_violations: false,
     };
 
     /// Whether a frame of these octets is printed. Octets that are too short for what is requested

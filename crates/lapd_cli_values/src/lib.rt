@@ -25,8 +25,8 @@ pub use lapd_timers::Durations;
 pub use link_end::LinkEnd;
 pub use number_option::{
     AUDIT, CONNECTED_TERMINALS, COUNT, FIXED_TEI, FOLLOWED_K, IDLE_LIMIT, K, KNOWN_TEI, LINK_TEI,
-    LINKS_K, N200, NumberOption, PRINTED_SAPI, PRINTED_TEI, ROOM, SEED, T200, T201, T202, T203,
-    TERMINALS,
+    LINKS_K, N200, NumberOption, PRINTED_CALL, PRINTED_SAPI, PRINTED_TEI, ROOM, SEED, T200, T201,
+    T202, T203, TERMINALS,
 };
 pub use numbers::{number_of, params_of};
 pub use out_of_range::{

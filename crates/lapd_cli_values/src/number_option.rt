@@ -188,6 +188,18 @@ pub const PRINTED_TEI: NumberOption = NumberOption {
     most: 127,
 };
 
+/// The call reference of the frames that `decode` prints.
+pub const PRINTED_CALL: NumberOption = NumberOption {
+    name: "call",
+    value_name: "REFERENCE",
+    help: "\
+Prints only frames with a message of Q.931 that has this call reference,
+0 to 32767",
+    default: "",
+    least: 0,
+    most: 32_767,
+};
+
 /// The duration of T200 (Q.921 5.9.1).
 pub const T200: NumberOption = NumberOption {
     name: "t200",
