@@ -21,7 +21,7 @@ _lapd() {
             fi
             ;;
         --pcap | --svg | --html | --write) mapfile -t COMPREPLY < <(compgen -f -- "$word"); return ;;
-        --tei | --k | --n200 | --room | --terminals | --idle-limit | --audit | --t20? | --seed | --count | --call) return ;;
+        --tei | --k | --n200 | --room | --terminals | --idle-limit | --audit | --t20? | --seed | --count | --call | --span) return ;;
         --listen | --connect | --gsmtap) return ;;
     esac
     if [[ -z $offered && ${COMP_WORDS[1]} == decode && $word != -* ]]; then
@@ -45,7 +45,7 @@ _lapd() {
                     offered+=" --json --clock --time --quiet --serve --keep --idle-limit --pcap --ladder --gsmtap"
                     ;;
                 decode)
-                    offered+=" --loose --sender --names --no-octets --json --keep-going --pcap --follow --ladder --svg --k"
+                    offered+=" --loose --sender --span --names --no-octets --json --keep-going --pcap --follow --ladder --svg --k"
                     offered+=" --html --write --calls --summary --violations"
                     offered+=" --time --count --sapi --tei --call --kinds --no-polls --any-sapi --color"
                     ;;

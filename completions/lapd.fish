@@ -51,6 +51,7 @@ __lapd_option "net user" idle-limit -x -d "Close a silent connection, in millise
 
 __lapd_option decode loose -d "Allow more forms of lines"
 __lapd_option decode sender -x -a "net user" -d "Sender if none is named"
+__lapd_option decode span -x -d "Read the lines of this span of a log"
 __lapd_option decode names -d "Name messages"
 __lapd_option decode no-octets -d "Leave out octets of information"
 __lapd_option decode keep-going -d "Skip bad lines"

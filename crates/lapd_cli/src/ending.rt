@@ -24,6 +24,9 @@ const REFUSED: u8 = 5;
 /// The reason if a text does not have the form of an address.
 const NO_ADDRESS: &str = "expected HOST:PORT, such as 127.0.0.1:4000";
 
+/// What to do about a bad line of `decode`.
+const LOOSE: &str = "--loose reads logs, hex dumps and octets alone";
+
 /// Why a script did not run to its end.
 #[derive(Drop)]
 pub enum Stop {
@@ -111,7 +114,15 @@ fn print_bad_line(rt: &HostRuntime, ending: &Ending<'_>, fault: ScriptFault) {
                 "the line continues a hex dump, and the octets before it are missing"
             );
         }
-        _ => ending.report.print(rt, fault),
+        _ => {
+            ending.report.print(rt, fault);
+            if matches!(
+                (ending.report.script, fault),
+                (Script::Decode, ScriptFault::BadLine(_))
+            ) {
+                let _ = eprintln!(rt; "{LOOSE}");
+            }
+        }
     }
 }
 

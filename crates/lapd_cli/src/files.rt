@@ -6,15 +6,22 @@ use crate::output::{Output, printed_output};
 use crate::run_script;
 use lapd_capture::{FileKind, KIND_OCTETS, ReadFault, kind_of_file, take_front};
 use lapd_cli_console::Escaped;
-use lapd_cli_options::{DecodeOptions, Invocation, PrintedTime};
-use lapd_cli_script::{KindReason, Reason};
+use lapd_cli_options::{DecodeOptions, Invocation, Job, PrintedTime};
+use lapd_cli_script::{KindReason, Reason, first_line, is_passed_over};
+use lapd_log::is_script_line;
 use std::fs::File;
-use std::io::Read;
+use std::io::{ErrorKind, Read};
 use std::process::ExitCode;
 
 /// The forms of files that can be read.
 const WANTED: &str = "\
 decode reads captures (pcap, pcapng), lines such as user 00817f, and with --loose logs and hex dumps";
+
+/// How many octets of a text are read at a time.
+const PART: usize = 512;
+
+/// The most octets of a text that decide whether it is a script.
+const MOST_FRONT: usize = 4096;
 
 /// Prints the frames of these files, one file after the other, and reports how that ended. The
 /// status is that of the first file that failed. One file is printed to this output, and each of
@@ -76,6 +83,9 @@ fn read_file<R: Read + Drop>(
         Err(_) => return print_memory(rt),
     };
     let front = &front[..count];
+    if let Some(reason) = unread_form(front) {
+        return print_unread(rt, file, reason);
+    }
     match kind_of_file(front) {
         FileKind::Capture => read_capture(
             rt,
@@ -96,7 +106,27 @@ fn read_file<R: Read + Drop>(
     }
 }
 
-// Prints the frames of the lines of this reader, which reads this file.
+// The form of a file with these first octets, if it has to be changed before it can be read.
+fn unread_form(front: &[u8]) -> Option<&'static str> {
+    match front {
+        [b'B', b'Z', b'h', ..] => {
+            Some("compressed by bzip2; pipe it: bzcat FILE | lapd decode -")
+        }
+        [0xfd, b'7', b'z', b'X', ..] => {
+            Some("compressed by xz; pipe it: xzcat FILE | lapd decode -")
+        }
+        [0x28, 0xb5, 0x2f, 0xfd, ..] => {
+            Some("compressed by zstd; pipe it: zstdcat FILE | lapd decode -")
+        }
+        [0xff, 0xfe, ..] | [0xfe, 0xff, ..] => {
+            Some("text in UTF-16; pipe it: iconv -f UTF-16 -t UTF-8 FILE | lapd decode --loose -")
+        }
+        _ => None,
+    }
+}
+
+// Prints the frames of the lines of this reader, which reads this file. A text that does not begin
+// as a script is read as a log.
 fn read_text<R: Read + Drop>(
     rt: &HostRuntime,
     chosen: &Invocation<'_>,
@@ -105,13 +135,106 @@ fn read_text<R: Read + Drop>(
     options: DecodeOptions,
     output: Output<'_>,
 ) -> ExitCode {
+    let mut source = source;
+    let mut front = Vec::new(rt.alloc());
+    match take_first_line(&mut source, &mut front) {
+        Ok(()) => {}
+        Err(FrontFault::Device(kind)) => return print_no_file(rt, file, &KindReason(kind)),
+        Err(FrontFault::Memory) => return print_memory(rt),
+    }
+    let is_script = !options.loose && is_script(rt, front.as_slice());
+    let source = front.as_slice().chain(source);
     match options.time {
-        PrintedTime::Hidden => run_script(rt, chosen, Some(file), source, output),
+        PrintedTime::Hidden if is_script || options.loose => {
+            run_script(rt, chosen, Some(file), source, output)
+        }
+        PrintedTime::Hidden => {
+            let _ = eprintln!(rt; "{}: read as a log (--loose)", Escaped(file));
+            run_script(rt, &as_log(rt, chosen, options), Some(file), source, output)
+        }
         _ => {
             let file = Escaped(file);
             let _ = eprintln!(rt; "error: --time requires a capture, and {file} is text");
             ExitCode::from(COMMAND_LINE)
         }
+    }
+}
+
+// Why the first line of a text was not read.
+enum FrontFault {
+    Device(ErrorKind),
+    Memory,
+}
+
+// Reads octets of a text until they have a line that a script does not skip, at most a number of
+// octets.
+fn take_first_line<R: Read>(source: &mut R, front: &mut Vec<u8>) -> Result<(), FrontFault> {
+    let mut part = [0; PART];
+    for _read in 0..MOST_FRONT {
+        if has_first_line(front.as_slice()) || front.len() >= MOST_FRONT {
+            return Ok(());
+        }
+        let count = match source.read(&mut part) {
+            Ok(0) => return Ok(()),
+            Ok(count) => count,
+            Err(error) => return Err(FrontFault::Device(error.kind())),
+        };
+        if front.extend_from_slice(&part[..count]).is_err() {
+            return Err(FrontFault::Memory);
+        }
+    }
+    Ok(())
+}
+
+// Whether a text has a whole line that a script does not skip.
+fn has_first_line(text: &[u8]) -> bool {
+    let mut rest = text;
+    for _octet in 0..text.len() {
+        let Some((line, behind)) = first_line(rest) else {
+            return false;
+        };
+        if !is_passed_over(line) {
+            return true;
+        }
+        rest = behind;
+    }
+    false
+}
+
+// Whether a text begins as a script: its first line that a script does not skip is a line of one, or
+// there is no such line.
+fn is_script(rt: &HostRuntime, text: &[u8]) -> bool {
+    let mut rest = text;
+    for _octet in 0..text.len() {
+        let Some((line, behind)) = first_line(rest) else {
+            return is_passed_over(rest) || is_script_line(rt.alloc(), rest);
+        };
+        if !is_passed_over(line) {
+            return is_script_line(rt.alloc(), line);
+        }
+        rest = behind;
+    }
+    true
+}
+
+// The chosen job with the lines of a log.
+fn as_log<'a>(rt: &HostRuntime, chosen: &Invocation<'a>, options: DecodeOptions) -> Invocation<'a> {
+    Invocation {
+        job: Job::Decode(DecodeOptions {
+            loose: true,
+            ..options
+        }),
+        address: chosen.address,
+        files: Vec::new(rt.alloc()),
+        pcap: chosen.pcap,
+        svg: chosen.svg,
+        html: chosen.html,
+        write: chosen.write,
+        span: chosen.span,
+        clock: chosen.clock,
+        is_clock_open: chosen.is_clock_open,
+        json: chosen.json,
+        strict: chosen.strict,
     }
 }
 

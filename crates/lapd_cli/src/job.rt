@@ -2,12 +2,13 @@
 
 use crate::ending::Stop;
 use crate::live::run_live;
+use crate::log::run_log;
 use lapd_cli_answer::answer;
 use lapd_cli_bus::{BusLayout, bus_links};
 use lapd_cli_console::Script;
 use lapd_cli_decode::{
-    Drawing, Filter, Follow, FrameStyle, FrameTime, JoinedDumps, Layout, LineForm, LinesStyle,
-    Style, decode, decode_good_lines, decode_lines, print_lines,
+    Drawing, Filter, Follow, FrameStyle, FrameTime, Layout, LineForm, LinesStyle, Style, decode,
+    decode_good_lines, decode_lines, print_lines,
 };
 use lapd_cli_io::connection;
 use lapd_cli_link_commands::{bus, draw_pair, loop_over, pair};
@@ -95,7 +96,7 @@ pub fn run_job<R: Read, W: Write>(
         }
         Job::User(interface) => return run_side(rt, Side::User, interface, chosen, script, out),
         Job::Decode(options) => {
-            return run_decode(rt, script, out, *options, chosen.strict);
+            return run_decode(rt, chosen, script, out, *options);
         }
     };
     ended.map_err(Stop::Script)
@@ -164,10 +165,10 @@ fn run_answer<R: Read, W: Write>(
 // Executes a script of lines with octets.
 fn run_decode<R: Read, W: Write>(
     rt: &HostRuntime,
+    chosen: &Invocation<'_>,
     script: &mut R,
     out: &mut W,
     options: DecodeOptions,
-    strict: bool,
 ) -> Result<(), Stop> {
     let frames = frames_of(rt, options, PrintedTime::Hidden);
     if frames.layout != Layout::Lines
@@ -184,7 +185,7 @@ fn run_decode<R: Read, W: Write>(
             keeps_going: options.keep_going,
             follow: follow_of(options),
         };
-        return run_any_lines(rt, script, out, how, strict);
+        return run_any_lines(rt, chosen, script, out, how, options);
     }
     let ended = if options.keep_going {
         decode_good_lines(rt.alloc(), script, out, frames.style, rt.stderr())
@@ -196,26 +197,28 @@ fn run_decode<R: Read, W: Write>(
     ended.map_err(Stop::Script)
 }
 
-// Executes a script of lines with octets in this form. Of loose lines those of a dump are joined.
+// Executes a script of lines with octets in this form. Loose lines are read as a log.
 fn run_any_lines<R: Read, W: Write>(
     rt: &HostRuntime,
+    chosen: &Invocation<'_>,
     script: &mut R,
     out: &mut W,
     how: LinesStyle,
-    strict: bool,
+    options: DecodeOptions,
 ) -> Result<(), Stop> {
     match how.form {
-        LineForm::Strict => run_lines(rt, script, out, how, strict),
-        LineForm::Loose(_) => {
-            let mut joined = JoinedDumps::new(rt.alloc(), script);
-            run_lines(rt, &mut joined, out, how, strict)
-        }
+        LineForm::Strict => run_lines(rt, script, out, how, chosen.strict),
+        LineForm::Loose(_) => run_log(rt, chosen, script, out, how, options),
     }
 }
 
-// Executes a script of lines with octets, if they are loose, not all are printed or links are
-// followed.
-fn run_lines<R: Read, W: Write>(
+/// Executes a script of lines with octets, if they are loose, not all are printed or links are
+/// followed.
+///
+/// # Errors
+///
+/// `Violated` if a frame violates Q.921 and `strict` is set, and the faults of a script.
+pub fn run_lines<R: Read, W: Write>(
     rt: &HostRuntime,
     script: &mut R,
     out: &mut W,

@@ -19,6 +19,7 @@ mod files;
 mod greeting;
 mod job;
 mod live;
+mod log;
 mod output;
 
 use capture::run_capture;

@@ -20,6 +20,8 @@ mod lines;
 #[cfg(test)]
 mod live_ladder;
 #[cfg(test)]
+mod logs;
+#[cfg(test)]
 mod names;
 #[cfg(test)]
 mod objects;

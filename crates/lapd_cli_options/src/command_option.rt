@@ -17,6 +17,8 @@ pub(crate) enum CommandOption {
     File(&'static str, &'static str),
     /// Files without an option's name, of any number.
     Files,
+    /// An option with the name of a span: its name and its help text.
+    Span(&'static str, &'static str),
     /// An option with one of a few words.
     Word(WordOption),
     /// An option with one of a few words and no default.
@@ -57,6 +59,7 @@ pub(crate) fn arg_of<'a>(alloc: Global, option: &CommandOption) -> Arg<'a> {
         CommandOption::Flag(name, help) => flag(alloc, name, help),
         CommandOption::File(name, help) => value_arg(alloc, name, "FILE", help),
         CommandOption::Files => files_arg(alloc),
+        CommandOption::Span(name, help) => value_arg(alloc, name, "SPAN", help),
         CommandOption::Word(option) => word_arg(alloc, option),
         CommandOption::BareWord(option) => bare_word_arg(alloc, option),
         CommandOption::Words(option) => words_arg(alloc, option),

@@ -83,6 +83,14 @@ pub(crate) fn file_of<'a>(
     }
 }
 
+/// The span whose lines this command reads, if the option is present.
+pub(crate) fn span_of<'a>(command: ScriptCommand, given: &ArgMatches<'a>) -> Option<&'a str> {
+    match command {
+        ScriptCommand::Decode => given.get_str("span"),
+        _ => None,
+    }
+}
+
 /// Whether this command prints each line of a side as a JSON object.
 pub(crate) fn prints_json(command: ScriptCommand, given: &ArgMatches<'_>) -> bool {
     match command {

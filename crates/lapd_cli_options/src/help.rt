@@ -85,6 +85,10 @@ pub const LOOSE: &str = "\
 Allows spaces, colons, brackets and 0x in HEX, and lines of libpri and of
 logs, hex dumps, and HEX alone; skips and counts other lines";
 
+pub const SPAN: &str = "\
+Reads only the lines of this span of a log, such as 1 or BR0/0; by default
+each span is printed by itself";
+
 pub const SENDER: &str = "\
 The side that printed the lines of libpri and of logs, and that sent the
 octets of a line or a capture that does not name it; by default it is taken

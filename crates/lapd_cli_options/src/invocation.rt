@@ -21,6 +21,8 @@ pub struct Invocation<'a> {
     pub html: Option<&'a str>,
     /// The file of `decode --write`, unchanged from the command line.
     pub write: Option<&'a str>,
+    /// The span whose lines `decode` reads, unchanged from the command line; all if `None`.
+    pub span: Option<&'a str>,
     /// The clock of `net` or `user`.
     pub clock: Clock<'a>,
     /// Whether `net` or `user` name no clock, so that it is the real one at a terminal
@@ -245,6 +247,7 @@ impl Invocation<'_> {
             svg: None,
             html: None,
             write: None,
+            span: None,
             clock: Clock::Script,
             is_clock_open: false,
             json: false,

@@ -24,7 +24,7 @@ mod tips;
 
 use clap::{ArgMatches, Command};
 use clock_options::{clock_of, is_clock_open};
-use command_options::{address_of, file_of, job_of, prints_json};
+use command_options::{address_of, file_of, job_of, prints_json, span_of};
 use decode_options::files_of;
 pub use invocation::{
     Clock, Color, DecodeOptions, FollowOptions, Invocation, Job, LiveOptions, PrintedLayout,
@@ -123,6 +123,7 @@ fn invocation_with<'a>(
         svg: file_of(command, given, "svg"),
         html: file_of(command, given, "html"),
         write: file_of(command, given, "write"),
+        span: span_of(command, given),
         clock,
         is_clock_open: is_clock_open(command, given),
         json: prints_json(command, given),

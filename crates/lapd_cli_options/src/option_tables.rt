@@ -80,6 +80,7 @@ pub(crate) const DECODE: &[&[CommandOption]] = &[
         CommandOption::Files,
         CommandOption::Flag("loose", help::LOOSE),
         CommandOption::BareWord(SENDER),
+        CommandOption::Span("span", help::SPAN),
         CommandOption::Flag("names", help::NAMES),
         CommandOption::Flag("no-octets", help::NO_OCTETS),
         CommandOption::Flag("json", help::JSON),
