@@ -1,5 +1,5 @@
 -- Agreement is kept after every run, on whole numbers and on tags.
-use Rattle.std.proofs.Common.{◌≡◌, ◌⊎◌, inl, inr, ℕ, ◌-◌, ◌≤◌, ◌==◌, ◌&&◌, ◌||◌, true, false, List, ◌∷◌, map, refl, sym, ap, subst, ◌∙◌, arith, []}
+use Rattle.std.proofs.Common.{◌≡◌, ◌⊎◌, inl, inr, ℕ, ◌≤◌, ◌==◌, ◌&&◌, ◌||◌, true, false, List, ◌∷◌, map, refl, sym, ap, subst, ◌∙◌, arith, []}
 use Rattle.lapd_frame.specs.declared.Role.{Role}
 use Rattle.lapd_frame.specs.declared.Role.TheVariants.{Command, Answer}
 use Rattle.lapd_frame.specs.declared.Control.{Control}

@@ -23,7 +23,7 @@ use Rattle.lapd_link_definition.specs.TeiAssigned.{tei_assigned}
 use Rattle.lapd_pair_laws.specs.Line.{Flight, without_info}
 use Rattle.lapd_pair_laws.specs.Move.{Station, View, story_after}
 use Rattle.lapd_pair_laws.specs.Kinds.{Kind, Asks, Accepts, Refuses, Unnumbered, kind, kind_of, kinds, messages, numbers, rejections, tally, answer_of, is_acceptance}
-use Rattle.lapd_pair_laws.specs.Parties.{Reception, party, behind, next_reception, received_in, receives, OnReception}
+use Rattle.lapd_pair_laws.specs.Parties.{Reception, party, next_reception, received_in, receives, OnReception}
 use Rattle.lapd_pair_laws.specs.Conjuncts.{IsEmpty, IsHolding, IsNumbering, IsConsistentSender, IsReceivable, most_asks}
 use Rattle.lapd_pair_laws.specs.Invariant.{Both}
 use Rattle.lapd_pair_laws.proofs.ActionEffects.{Context, story, seen, line}

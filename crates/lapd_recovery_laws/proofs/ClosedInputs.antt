@@ -1,5 +1,5 @@
 -- The frames that a closed end processes, and the outputs of a step that send none.
-use Rattle.std.proofs.Common.{◌≡◌, ℕ, ◌+◌, ◌-◌, Bool, true, false, List, ◌∷◌, ◌++◌, option_map, refl, subst, arith, []}
+use Rattle.std.proofs.Common.{◌≡◌, ℕ, Bool, true, false, List, ◌∷◌, ◌++◌, option_map, refl, subst, []}
 use Rattle.lapd_timers.specs.declared.timer.Timer.TheVariants.{T200, T203}
 use Rattle.lapd_frame.specs.declared.Role.{Role}
 use Rattle.lapd_frame.specs.declared.Role.TheVariants.{Command, Answer}
@@ -13,7 +13,6 @@ use Rattle.lapd_link_definition.specs.Procedures.{out_where}
 use Rattle.lapd_pair_laws.specs.Histories.{Occasion, Story, after_outputs}
 use Rattle.lapd_pair_laws.specs.Kinds.{Kind, kind_of, is_acceptance}
 use Rattle.lapd_pair_laws.specs.Parties.{Reception, behind, behind_acceptance, next_reception, received_in, OnReception}
-use Rattle.lapd_pair_laws.proofs.ActionEffects.{line}
 
 -- ---- The frames that a closed end will process.
 

@@ -1,22 +1,22 @@
 -- Deliveries, losses and expired timers are counted. An early timer leads back to the first phase of
 -- `CountedMoves`, as a loss does.
-use Rattle.std.proofs.Common.{◌≡◌, ◌⊎◌, inl, inr, ℕ, ◌+◌, ◌*◌, ◌-◌, ◌≤◌, not, Bool, true, false, List, [], ◌∷◌, length, is_ok, refl, sym, ap, subst, ◌∙◌, arith}
+use Rattle.std.proofs.Common.{◌≡◌, ◌⊎◌, inl, inr, ℕ, ◌+◌, ◌*◌, ◌-◌, ◌≤◌, not, Bool, true, false, List, [], ◌∷◌, length, is_ok, refl, sym, ap, subst, arith}
 use Rattle.lapd_frame.specs.declared.Side.{Side}
 use Rattle.lapd_mod128.specs.Counting.{Whole}
 use Rattle.lapd_link_definition.specs.End.{waiting}
 use Rattle.lapd_pair_laws.specs.Move.{PairEvent, Deliver, Lose, Expire200, Expire203, Move}
-use Rattle.lapd_pair_laws.specs.World.{World, view_of, happens, world_after, run}
+use Rattle.lapd_pair_laws.specs.World.{World, view_of, happens, run}
 use Rattle.lapd_pair_laws.proofs.Consistency.{run_consistent}
 use Rattle.lapd_recovery_laws.specs.Deliveries.{most_deliveries}
-use Rattle.lapd_recovery_laws.specs.EarlyTimers.{is_of_line, IsLineMove, AreLineMoves, is_early, earlies, overtaken_by, overtaken}
+use Rattle.lapd_recovery_laws.specs.EarlyTimers.{IsLineMove, AreLineMoves, is_early, earlies, overtaken_by, overtaken}
 use Rattle.lapd_recovery_laws.specs.Losses.{is_loss, one_if, losses}
-use Rattle.lapd_recovery_laws.specs.Own.{is_due, IsOwn}
+use Rattle.lapd_recovery_laws.specs.Own.{is_due}
 use Rattle.lapd_recovery_laws.proofs.AfterOutage.{facts_after}
 use Rattle.lapd_recovery_laws.proofs.CountedMoves as counted
 use Rattle.lapd_recovery_laws.proofs.CountedMoves.{Keeps, IsWeight, after, flow_more}
 use Rattle.lapd_recovery_laws.proofs.RunsEmpty as runs
 use Rattle.lapd_recovery_laws.proofs.RunsEmpty.{Flow}
-use Rattle.lapd_recovery_laws.proofs.TimersBeside.{ExpiresBeside, most_beside, t200_early, t203_early}
+use Rattle.lapd_recovery_laws.proofs.TimersBeside.{ExpiresBeside, t200_early, t203_early}
 
 module _ (N l most : ℕ) (Weight : ℕ → World → Type 0)
     (h : IsWeight N l most (λ b w. Unit {0}) Weight) where

@@ -88,12 +88,12 @@ overtaken_by_tags side.User event w = refl
 overtaken_by_tags side.Network event w = refl
 
 -- the same moves on whole numbers
-record AreSame (moves : List Move) (w : World) : Type 0 where
-  own : AreLineMoves Whole moves w
+pub record AreSame (moves : List Move) (w : World) : Type 0 where
+  pub own : AreLineMoves Whole moves w
   early : earlies Tagged moves (tag_world w) ≡ earlies Whole moves w
   late : overtaken Tagged moves (tag_world w) ≡ overtaken Whole moves w
 
-line_moves_by_tags : (moves : List Move) (w : World) → IsInvariant w → IsConsistentWorld Whole w
+pub line_moves_by_tags : (moves : List Move) (w : World) → IsInvariant w → IsConsistentWorld Whole w
     → AreLineMoves Tagged moves (tag_world w) → AreSame moves w
 line_moves_by_tags [] w i preserved own = record { own = tt; early = refl; late = refl }
 line_moves_by_tags (move ∷ moves) w i preserved own =

@@ -21,7 +21,7 @@ use Rattle.lapd_link_definition.specs.End.{End, StepState, begin, runs, waiting}
 use Rattle.lapd_link_definition.specs.Established.{sends_last, in_7_and_8, multiple_frame_established}
 use Rattle.lapd_link_definition.specs.Input.{Input, Heard, Faulty, Expiry, Establish, Release, BusyOn, BusyOff, UnitData, Give}
 use Rattle.lapd_link_definition.specs.Parameters.{Parameters}
-use Rattle.lapd_link_definition.specs.Procedures.{out_where, put, increment_rc, layer3_initiated_to, start, expired, set_own_busy, queue_up, discard_i_queue, transmit_enquiry, establish_data_link}
+use Rattle.lapd_link_definition.specs.Procedures.{out_where, put, increment_rc, layer3_initiated_to, expired, set_own_busy, queue_up, discard_i_queue, transmit_enquiry, establish_data_link}
 use Rattle.lapd_link_definition.specs.Table.{by_state, report_fault, row, step, is_unit_data}
 use Rattle.lapd_link_definition.specs.Refusal.{refused}
 use Rattle.lapd_link_definition.specs.TeiAssigned.{tei_assigned}

@@ -1,7 +1,8 @@
 -- Few losses: both ends stay in states 7 and 8, and no message is dropped.
-use Rattle.std.proofs.Common.{◌≡◌, ◌⊎◌, inl, inr, ℕ, zero, suc, ◌+◌, ◌-◌, ◌≤◌, nat_lt, not, ◌||◌, Bool, true, false, List, [], ◌∷◌, length, is_ok, refl, sym, ap, subst, ◌∙◌, arith, ◌*◌}
+use Rattle.std.proofs.Common.{◌≡◌, ◌⊎◌, inl, inr, ℕ, zero, suc, ◌+◌, ◌-◌, ◌≤◌, nat_lt, if◌then◌else◌, not, ◌||◌, Bool, true, false, List, [], ◌∷◌, ◌++◌, length, Option, Some, None, Result, Err, is_ok, refl, sym, ap, subst, ◌∙◌, arith, ◌*◌}
 use Rattle.std.proofs.lemmas.Bool.Decides.{nat_tests}
 use Rattle.std.proofs.lemmas.Nat.{mul-le}
+use Rattle.lapd_timers.specs.declared.timer.Timer.TheVariants.{T200}
 use Rattle.lapd_frame.specs.declared.Side.{Side}
 use Rattle.lapd_frame.specs.declared.Side.TheVariants as side
 use Rattle.lapd_mod128.specs.Counting.{Reading, Whole, Tagged}
@@ -9,31 +10,36 @@ use Rattle.lapd_link_definition.specs.declared.state.State.{State}
 use Rattle.lapd_link_definition.specs.declared.state.State.TheVariants.{TeiAssigned, AwaitingEstablishment, AwaitingRelease, MultipleFrameEstablished, TimerRecovery}
 use Rattle.lapd_link_definition.specs.EndOfStep.{is_7_or_8}
 use Rattle.lapd_link_definition.specs.End.{End}
+use Rattle.lapd_link_definition.specs.Input.{Expiry}
 use Rattle.lapd_link_definition.specs.Parameters.{Parameters}
+use Rattle.lapd_link_definition.specs.RunningTimers.{HasTimersOfState}
 use Rattle.lapd_link_definition.specs.Table.{step}
 use Rattle.lapd_link_definition.specs.Tagging.{tag_end}
 use Rattle.lapd_pair_laws.specs.Conjuncts.{most_asks}
 use Rattle.lapd_pair_laws.specs.Consistent.{IsConsistentWorld}
 use Rattle.lapd_pair_laws.specs.Invariant.{IsInvariant}
 use Rattle.lapd_pair_laws.specs.Kinds.{Kind, Numbered, Final, kind, kinds, tally, ask_of, poll_of, final_of, bit}
-use Rattle.lapd_pair_laws.specs.Line.{Flight, without_lost}
-use Rattle.lapd_pair_laws.specs.Move.{PairEvent, Deliver, Lose, Expire200, Expire203, Move, Station, View, acts, delivers, receives, view_after}
+use Rattle.lapd_pair_laws.specs.Line.{Flight, without_lost, first_poll, first_final}
+use Rattle.lapd_pair_laws.specs.Move.{PairEvent, Deliver, Lose, Expire200, Expire203, NotRunning, Move, Station, View, ViewStep, Refusal, acts, takes, expires_200, unless_under_way, delivers, receives, view_after}
 use Rattle.lapd_pair_laws.specs.Timed.{IsSettledEnd}
 use Rattle.lapd_pair_laws.specs.Tagged.{tag_world}
 use Rattle.lapd_pair_laws.specs.World.{World, new_world, swapped, view_of, with_view, happens, run, left}
 use Rattle.lapd_pair_laws.proofs.Consistency.{run_consistent}
+use Rattle.lapd_pair_laws.proofs.Lists.{tally_append}
 use Rattle.lapd_pair_laws.proofs.MidSteps.{open_asks_none}
 use Rattle.lapd_pair_laws.proofs.Reached.{reached_tags}
 use Rattle.lapd_pair_laws.proofs.Stepping.{user_move}
 use Rattle.lapd_pair_laws.proofs.Swaps.{network_alike}
 use Rattle.lapd_pair_laws.proofs.TaggedMoves.{left_on_tags}
+use Rattle.lapd_pair_laws.proofs.UnderWay.{none_under_way, none_answered}
 use Rattle.lapd_pair_laws.proofs.Whole.{each_run_preserves}
 use Rattle.lapd_pair_laws.proofs.Worlds.{left_by, exchanged, safe_by_invariant}
 use Rattle.lapd_pair_laws.proofs.Settles.{side_served}
 use Rattle.lapd_recovery_laws.specs.Agreed.{AreLevel, AreReleased}
 use Rattle.lapd_recovery_laws.specs.FewLosses.{Outlasts, OutlastLosses, StaysOpen, most_open_moves, KeepsAll}
 use Rattle.lapd_recovery_laws.specs.Deliveries.{frames}
-use Rattle.lapd_recovery_laws.specs.Losses.{is_loss, IsOwnOrLoss, AreOwnOrLosses, one_if, losses}
+use Rattle.lapd_recovery_laws.specs.EarlyTimers.{IsLineMove, AreLineMoves}
+use Rattle.lapd_recovery_laws.specs.Losses.{is_loss, one_if, losses}
 use Rattle.lapd_recovery_laws.specs.OpenLine.{IsUp}
 use Rattle.lapd_recovery_laws.specs.Own.{are_apart, is_line_empty, is_due, IsOwn, Rests}
 use Rattle.lapd_recovery_laws.specs.Timers.{HaveTimersOfStates}
@@ -41,11 +47,13 @@ use Rattle.lapd_recovery_laws.proofs.AfterOutage.{same_parameters, facts_after, 
 use Rattle.lapd_recovery_laws.proofs.AnyOrder.{Draining, none_there, none_there_too, own_moves_on}
 use Rattle.lapd_recovery_laws.proofs.OneMoreFrame.{seeing}
 use Rattle.lapd_recovery_laws.proofs.CountedMoves.{after, Keeps, IsWeight, moves_counted}
-use Rattle.lapd_recovery_laws.proofs.DespiteLosses.{despite_losses, own_or_losses_by_tags}
+use Rattle.lapd_recovery_laws.proofs.DespiteLosses.{own_or_losses_by_tags}
+use Rattle.lapd_recovery_laws.proofs.DespiteTimers.{despite_timers, line_moves_by_tags}
+use Rattle.lapd_recovery_laws.proofs.EndSends.{kinds_append}
 use Rattle.lapd_recovery_laws.proofs.EveryWorld.{drains_at}
 use Rattle.lapd_recovery_laws.proofs.LosesFrame.{user_loses}
-use Rattle.lapd_recovery_laws.proofs.PeerReleased.{t200_runs, ok_of_side, last_of}
-use Rattle.lapd_recovery_laws.proofs.LoneSteps.{Polls, polls_by_t200, polls_again}
+use Rattle.lapd_recovery_laws.proofs.PeerReleased.{t200_runs, t203_runs, ok_of_side, last_of}
+use Rattle.lapd_recovery_laws.proofs.LoneSteps.{Polls, polls_by_t200, polls_by_t203, polls_again}
 use Rattle.lapd_recovery_laws.proofs.Lost.{at}
 use Rattle.lapd_recovery_laws.proofs.LostMoves.{moved_user}
 use Rattle.lapd_recovery_laws.proofs.OpenAfterRuns.{up_on_tags}
@@ -53,6 +61,7 @@ use Rattle.lapd_recovery_laws.proofs.OpenFrames.{Stays, open_delivered}
 use Rattle.lapd_recovery_laws.proofs.OutageWorlds.{Facts, second_of}
 use Rattle.lapd_recovery_laws.proofs.OwnOnTags.{rests_by_tags, ran_on_tags}
 use Rattle.lapd_recovery_laws.proofs.RunsEmpty as runs
+use Rattle.lapd_recovery_laws.proofs.TimersBeside.{IsBeside, t200_beside, t203_beside}
 use Rattle.lapd_recovery_laws.proofs.Transitions.{timers_in}
 
 -- b frames may still be lost. In state 8 a poll or its final is in transit, or RC is lower by one.
@@ -187,72 +196,146 @@ deliver N b side.Network x y to_user (frame ∷ rest) f l ok =
     by_swap b Deliver w (user_delivered b y x frame rest to_user (exchanged w f.holds)
     f.settled.network (lasts_swapped b w l))
 
--- ---- T200 expires on an empty line.
+-- ---- T200 or T203 expires, beside frames in transit or not.
 
 less : (a b : ℕ) → a + 1 ≤ b → nat_lt a b ≡ true
 less a b le = grind (arith, nat_tests, le)
 
-module _ (b : ℕ) (x y : Station) (l : Lasts b (at x y [] [])) where
-  abbrev empty : World
-  empty = at x y [] []
+-- T200 waits for its poll, and for the final
+pub awaits_none : (v : View) → is_ok (acts Whole side.User Expire200 v) ≡ true
+    → (tally poll_of (kinds v.outgoing) ≡ 0) × (tally final_of (kinds v.incoming) ≡ 0)
+unfolding acts expires_200
+awaits_none v ok =
+    by_tests v.station.end.t200 (first_poll v.outgoing) (first_final v.incoming) refl refl
+    (takes Whole (Expiry T200) [] v) ok
+  where
+    by_tests : (on : Bool) (poll final : Option ℕ) → first_poll v.outgoing ≡ poll
+        → first_final v.incoming ≡ final → (taken : Result ViewStep Refusal)
+        → is_ok (if on then unless_under_way side.User poll final taken else Err NotRunning) ≡ true
+        → (tally poll_of (kinds v.outgoing) ≡ 0) × (tally final_of (kinds v.incoming) ≡ 0)
+    by_tests true None None poll final taken ok =
+        ((none_under_way v.outgoing poll).0, (none_answered v.incoming final).0)
+    by_tests true None (Some at) poll final taken ok = cc
+    by_tests true (Some at) other poll final taken ok = cc
+    by_tests false one other poll final taken ok = cc
 
-  polled : (rc : ℕ) (u : View) → rc + b ≤ x.end.parameters.n200 → Polls x rc u
-      → Goes b empty (with_view side.User u empty)
-  polled rc u enough p =
-      let out : tally poll_of (kinds u.outgoing) ≡ poll_of (kind p.frame) + 0 =
+module _ (b : ℕ) (x y : Station) (to_user to_network : List Flight)
+    (l : Lasts b (at x y to_user to_network)) where
+  abbrev before : World
+  before = at x y to_user to_network
+
+  abbrev seen : View
+  seen = seeing x to_user to_network
+
+  polled : (event : PairEvent) (rc : ℕ) (alone : View) → rc + b ≤ x.end.parameters.n200
+      → Polls x rc alone
+      → IsBeside to_user to_network alone (left_by seen (acts Whole side.User event seen))
+      → Goes b before (after side.User event before)
+  polled event rc alone enough p same =
+      let v = left_by seen (acts Whole side.User event seen) in
+      let sent : kinds v.outgoing ≡ kinds to_network ++ kinds alone.outgoing =
+      ap kinds same.outgoing_is ∙ kinds_append to_network alone.outgoing in
+      let polls =
+      ap (λ ks. tally poll_of ks) sent
+      ∙ tally_append poll_of (kinds to_network) (kinds alone.outgoing) in
+      let finals =
+      ap (λ ks. tally final_of ks) sent
+      ∙ tally_append final_of (kinds to_network) (kinds alone.outgoing) in
+      let poll : tally poll_of (kinds alone.outgoing) ≡ poll_of (kind p.frame) + 0 =
       ap (λ fs. tally poll_of (kinds fs)) p.outgoing in
+      let arriving = ap kinds same.incoming_is in
       let one = p.polls in
-      let n200 : u.station.end.parameters.n200 ≡ x.end.parameters.n200 =
+      let n200 : alone.station.end.parameters.n200 ≡ x.end.parameters.n200 =
       ap (λ (q : Parameters). q.n200) p.polled.parameters in
       let rc_is = p.polled.rc_is in
       let spare = l.user.spare in
-      record {
+      subst (λ n. Goes b before n) (sym (moved_user event before)) (record {
         lasts = record {
-          user = record {
-            open_state = ap is_7_or_8 p.polled.in_8;
-            spare = omega (arith, n200, spare);
-            tries = λ _. omega (arith, out, one, n200, rc_is, enough);
-          };
+          user =
+              subst (λ e. Tries b e (kinds v.outgoing) (kinds v.incoming)) (sym same.end)
+              (record {
+                open_state = ap is_7_or_8 p.polled.in_8;
+                spare = omega (arith, n200, spare);
+                tries = λ _. omega (arith, polls, poll, one, n200, rc_is, enough);
+              });
           network =
-              fewer_lost b y.end [] (kinds u.incoming) [] (kinds u.outgoing) (omega arith)
-              l.network;
+              subst (λ ks. Tries b y.end ks (kinds v.outgoing)) (sym arriving)
+              (fewer_lost b y.end (kinds to_user) (kinds to_user) (kinds to_network)
+              (kinds v.outgoing) (omega (arith, finals)) l.network);
         };
-        user_dropped = p.none_dropped;
+        user_dropped = same.dropped ∙ p.none_dropped;
         network_dropped = refl;
-      }
+      })
 
-  user_expires : x.end.t200 ≡ true → Goes b empty (after side.User Expire200 empty)
-  user_expires on =
-      subst (λ n. Goes b empty n) (sym (moved_user Expire200 empty))
-      (by_state x.end.state refl l.user.open_state)
+  user_expires_200 : is_ok (acts Whole side.User Expire200 seen) ≡ true
+      → Goes b before (after side.User Expire200 before)
+  user_expires_200 ok = by_state x.end.state refl l.user.open_state
     where
-      u : View
-      u = left_by (seeing x [] []) (acts Whole side.User Expire200 (seeing x [] []))
+      on : x.end.t200 ≡ true
+      on = t200_runs seen ok
+
+      alone : View
+      alone = left_by (seeing x [] []) (acts Whole side.User Expire200 (seeing x [] []))
 
       by_state : (state : State) → x.end.state ≡ state → is_7_or_8 state ≡ true
-          → Goes b empty (with_view side.User u empty)
+          → Goes b before (after side.User Expire200 before)
       by_state MultipleFrameEstablished is o =
-          let spare = l.user.spare in polled 1 u (omega (arith, spare)) (polls_by_t200 x is on)
+          let spare = l.user.spare in
+          polled Expire200 1 alone (omega (arith, spare)) (polls_by_t200 x is on)
+          (t200_beside x to_user to_network ok)
       by_state TimerRecovery is o =
           let enough = l.user.tries is in
-          polled (x.end.rc + 1) u (omega (arith, enough))
-          (polls_again x is on (less x.end.rc x.end.parameters.n200 (omega (arith, enough))))
+          let none = awaits_none seen ok in
+          let no_poll = none.0 in
+          let no_final = none.1 in
+          polled Expire200 (x.end.rc + 1) alone (omega (arith, enough, no_poll, no_final))
+          (polls_again x is on (less x.end.rc x.end.parameters.n200
+          (omega (arith, enough, no_poll, no_final))))
+          (t200_beside x to_user to_network ok)
       by_state TeiAssigned is o = cc
       by_state AwaitingEstablishment is o = cc
       by_state AwaitingRelease is o = cc
 
-expire : (b : ℕ) (s : Side) (x y : Station) (to_user to_network : List Flight)
-    → Lasts b (at x y to_user to_network) → is_due Expire200 (at x y to_user to_network) ≡ true
-    → is_ok (happens Whole (record { side = s; event = Expire200 }) (at x y to_user to_network))
-    ≡ true → Goes b (at x y to_user to_network) (after s Expire200 (at x y to_user to_network))
-expire b side.User x y [] [] l due ok =
-    user_expires b x y l
-    (t200_runs (seeing x [] []) (ok_of_side side.User Expire200 (at x y [] []) ok))
-expire b side.Network x y [] [] l due ok =
-    by_swap b Expire200 (at x y [] []) (user_expires b y x (lasts_swapped b (at x y [] []) l)
-    (t200_runs (seeing y [] []) (ok_of_side side.Network Expire200 (at x y [] []) ok)))
-expire b s x y (frame ∷ rest) to_network l due ok = cc
-expire b s x y [] (frame ∷ rest) l due ok = cc
+  user_expires_203 : HasTimersOfState x.end
+      → is_ok (acts Whole side.User Expire203 seen) ≡ true
+      → Goes b before (after side.User Expire203 before)
+  user_expires_203 has ok = by_state x.end.state refl l.user.open_state
+    where
+      on : x.end.t203 ≡ true
+      on = t203_runs seen ok
+
+      by_state : (state : State) → x.end.state ≡ state → is_7_or_8 state ≡ true
+          → Goes b before (after side.User Expire203 before)
+      by_state MultipleFrameEstablished is o =
+          let spare = l.user.spare in
+          polled Expire203 0
+          (left_by (seeing x [] []) (acts Whole side.User Expire203 (seeing x [] [])))
+          (omega (arith, spare)) (polls_by_t203 x is on) (t203_beside x to_user to_network ok)
+      by_state TimerRecovery is o =
+          let off = (timers_in TimerRecovery x.end has is).1 in let runs = on in cc
+      by_state TeiAssigned is o = cc
+      by_state AwaitingEstablishment is o = cc
+      by_state AwaitingRelease is o = cc
+
+expire_200 : (b : ℕ) (s : Side) (w : World) → Lasts b w
+    → is_ok (happens Whole (record { side = s; event = Expire200 }) w) ≡ true
+    → Goes b w (after s Expire200 w)
+expire_200 b side.User w l ok =
+    user_expires_200 b w.user w.network w.to_user w.to_network l
+    (ok_of_side side.User Expire200 w ok)
+expire_200 b side.Network w l ok =
+    by_swap b Expire200 w (user_expires_200 b w.network w.user w.to_network w.to_user
+    (lasts_swapped b w l) (ok_of_side side.Network Expire200 w ok))
+
+expire_203 : (b : ℕ) (s : Side) (w : World) → HaveTimersOfStates w → Lasts b w
+    → is_ok (happens Whole (record { side = s; event = Expire203 }) w) ≡ true
+    → Goes b w (after s Expire203 w)
+expire_203 b side.User w have l ok =
+    user_expires_203 b w.user w.network w.to_user w.to_network l have.user
+    (ok_of_side side.User Expire203 w ok)
+expire_203 b side.Network w have l ok =
+    by_swap b Expire203 w (user_expires_203 b w.network w.user w.to_network w.to_user
+    (lasts_swapped b w l) have.network (ok_of_side side.Network Expire203 w ok))
 
 -- T203 does not: both ends are in state 7, or T200 runs
 never_203 : (b : ℕ) (w : World) → Lasts b w → HaveTimersOfStates w → is_due Expire203 w ≡ true → ⊥
@@ -359,11 +442,11 @@ record Through (w now : World) : Type 0 where
 module _ (N : ℕ) where
   abbrev Rest : List Move → Type 0
   Rest moves =
-      (b : ℕ) (w : World) → Facts N w → Lasts b w → AreOwnOrLosses Whole moves w → losses moves ≤ b
+      (b : ℕ) (w : World) → Facts N w → Lasts b w → AreLineMoves Whole moves w → losses moves ≤ b
       → Through w (run Whole moves w)
 
   then_on : (b : ℕ) (s : Side) (event : PairEvent) (w : World) (moves : List Move) → Facts N w
-      → Goes b w (after s event w) → Rest moves → AreOwnOrLosses Whole moves (after s event w)
+      → Goes b w (after s event w) → Rest moves → AreLineMoves Whole moves (after s event w)
       → losses moves ≤ b → Through w (run Whole moves (after s event w))
   then_on b s event w moves f g rest own le =
       let r =
@@ -377,8 +460,8 @@ module _ (N : ℕ) where
       }
 
   first : (b : ℕ) (s : Side) (event : PairEvent) (w : World) (moves : List Move) → Facts N w
-      → Lasts b w → Rest moves → IsOwnOrLoss Whole (record { side = s; event = event }) w
-      → AreOwnOrLosses Whole moves (after s event w) → one_if (is_loss event) + losses moves ≤ b
+      → Lasts b w → Rest moves → IsLineMove Whole (record { side = s; event = event }) w
+      → AreLineMoves Whole moves (after s event w) → one_if (is_loss event) + losses moves ≤ b
       → Through w (run Whole moves (after s event w))
   first b s Deliver w moves f l rest one own le =
       then_on b s Deliver w moves f
@@ -390,14 +473,14 @@ module _ (N : ℕ) where
       (lose (b - 1) i s w (subst (λ n. Lasts n w) some l) one.admitted) rest own
       (omega (arith, le))
   first b s Expire200 w moves f l rest one own le =
-      then_on b s Expire200 w moves f
-      (expire b s w.user w.network w.to_user w.to_network l one.due one.admitted) rest own
+      then_on b s Expire200 w moves f (expire_200 b s w l one.admitted) rest own (omega (arith, le))
+  first b s Expire203 w moves f l rest one own le =
+      then_on b s Expire203 w moves f (expire_203 b s w f.have l one.admitted) rest own
       (omega (arith, le))
-  first b s Expire203 w moves f l rest one own le = absurd (never_203 b w l f.have one.due)
-  first b s event w moves f l rest one own le = let due = one.due in cc
+  first b s event w moves f l rest one own le = let impossible = one.of_line in cc
 
   goes_through : (moves : List Move) (b : ℕ) (w : World) → Facts N w → Lasts b w
-      → AreOwnOrLosses Whole moves w → losses moves ≤ b → Through w (run Whole moves w)
+      → AreLineMoves Whole moves w → losses moves ≤ b → Through w (run Whole moves w)
   goes_through [] b w f l own le = record {
     user = l.user.open_state;
     network = l.network.open_state;
@@ -421,7 +504,7 @@ own_lasts : (b : ℕ) (s : Side) (event : PairEvent) (w : World) (N l : ℕ) →
 own_lasts b s Deliver w N l k held own =
     (deliver N b s w.user w.network w.to_user w.to_network k.facts held own.admitted).lasts
 own_lasts b s Expire200 w N l k held own =
-    (expire b s w.user w.network w.to_user w.to_network held own.due own.admitted).lasts
+    (expire_200 b s w held own.admitted).lasts
 own_lasts b s Expire203 w N l k held own = absurd (never_203 b w held k.facts.have own.due)
 own_lasts b s event w N l k held own = let due = own.due in cc
 
@@ -485,7 +568,7 @@ few_losses N lost some w f preserved o = record {
       let now = run Whole moves w in
       let t = through moves own le in
       let agreed =
-      (despite_losses N some w f preserved o.user.free o.network.free).agreed moves own
+      (despite_timers N some w f preserved o.user.free o.network.free).agreed moves own
       rests in
       let kept = run_consistent Whole moves w preserved in
       let empty = agreed.empty in
@@ -513,7 +596,7 @@ few_losses N lost some w f preserved o = record {
       network = tries_so w.network.end (kinds w.to_user) (kinds w.to_network) o.network;
     }
 
-    through : (moves : List Move) → AreOwnOrLosses Whole moves w → losses moves ≤ lost
+    through : (moves : List Move) → AreLineMoves Whole moves w → losses moves ≤ lost
         → Through w (run Whole moves w)
     through moves own le = goes_through N moves lost w f begins own le
 
@@ -533,7 +616,7 @@ on_tags lost w i preserved k = record {
   stays = λ moves own le.
       let now = run Whole moves w in
       let same : run Tagged moves (tag_world w) ≡ tag_world now = ran_on_tags moves w i preserved in
-      let s = k.stays moves (own_or_losses_by_tags moves w i preserved own) le in
+      let s = k.stays moves (line_moves_by_tags moves w i preserved own).own le in
       subst (λ v. StaysOpen (tag_world w) v) (sym same)
       (record {
         user = s.user;
@@ -548,7 +631,7 @@ on_tags lost w i preserved k = record {
       rests_by_tags now (each_run_preserves moves w i)
       (run_consistent Whole moves w preserved) (subst (λ v. Rests Tagged v) same rests) in
       subst (λ v. IsUp (tag_world w) v) (sym same)
-      (up_on_tags w now (k.up moves (own_or_losses_by_tags moves w i preserved own) le still));
+      (up_on_tags w now (k.up moves (line_moves_by_tags moves w i preserved own).own le still));
 }
 
 outlasts_by_tags : (lost : ℕ) (e : End) → Outlasts lost (tag_end e) → Outlasts lost e

@@ -2,7 +2,6 @@
 -- side outlasts.
 use Rattle.std.proofs.Common.{◌≡◌, refl}
 use Rattle.lapd_mod128.specs.Counting.{Reading, Whole, Tagged}
-use Rattle.lapd_link_definition.specs.Procedures.{start}
 use Rattle.lapd_pair_laws.specs.Move.{Deliver}
 use Rattle.lapd_pair_laws.specs.Premises.{Admitted, freely, run_freely}
 use Rattle.lapd_pair_laws.specs.Reports.{ReportsExpected}

@@ -15,7 +15,7 @@ use Rattle.lapd_pair_laws.specs.Line.{Flight, without_info}
 use Rattle.lapd_pair_laws.specs.Kinds.{Kind, Numbered, Rejection, Final, kind_of, kinds, message_of, messages, rejection_of, rejections, tally, answer_of, poll_of, final_of}
 use Rattle.lapd_link_definition.specs.EndOfStep.{is_7_or_8}
 use Rattle.lapd_pair_laws.specs.Parties.{receives, OnReception}
-use Rattle.lapd_pair_laws.proofs.ActionEffects.{Context, story, line, final_kind}
+use Rattle.lapd_pair_laws.proofs.ActionEffects.{Context, story, final_kind}
 use Rattle.lapd_pair_laws.proofs.Flow.{IsInTransit, fresh}
 use Rattle.lapd_pair_laws.proofs.Receives.{current, left, as_received}
 use Rattle.lapd_pair_laws.proofs.Sends.{same_or_not}

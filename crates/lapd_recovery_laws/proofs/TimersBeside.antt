@@ -44,7 +44,7 @@ use Rattle.lapd_recovery_laws.proofs.PeerReleased.{t200_runs, t203_runs, ok_of_s
 use Rattle.lapd_recovery_laws.proofs.LoneSteps.{Polls, polls_by_t200, polls_by_t203, polls_again, sabme, asking, last_try_in_8}
 use Rattle.lapd_recovery_laws.proofs.Lost.{at}
 use Rattle.lapd_recovery_laws.proofs.LostMoves.{moved_user}
-use Rattle.lapd_recovery_laws.proofs.Proceeding.{weigh, weight_of, plain_of, extra, extra_few, extra_open, extra_shut, extra_more, load, load_in, load_least, missing, fresh_few, Share, Flowing, flowing_turned}
+use Rattle.lapd_recovery_laws.proofs.Proceeding.{weigh, weight_of, plain_of, extra, extra_few, extra_open, extra_shut, extra_more, load, load_in, load_least, missing, fresh_few, Share, flowing_turned}
 use Rattle.lapd_recovery_laws.proofs.RunsEmpty.{Flow, missing_few, in_queue, side_few}
 use Rattle.lapd_recovery_laws.proofs.Transitions.{timers_in}
 
@@ -84,20 +84,45 @@ module _ (o : Occasion) (l : List Flight) where
   outputs_behind (Dropped n ∷ outs) h rest = outputs_behind outs (with_dropped n h) rest
   outputs_behind (out ∷ outs) h rest = outputs_behind outs h rest
 
+-- the history does not depend on the line
+same_history : (o : Occasion) (outs : List Out) (h : History) (one other : List Flight)
+    → (after_outputs o outs (record { line = one; history = h })).history
+    ≡ (after_outputs o outs (record { line = other; history = h })).history
+same_history o [] h one other = refl
+same_history o (Send role control ∷ outs) h one other =
+    let g = without_info role control in
+    same_history o outs h (one ++ g ∷ []) (other ++ g ∷ [])
+same_history o (SendMessage n control ∷ outs) h one other =
+    let g = message_frame o control (h.passed + n) in
+    same_history o outs (with_sending (h.passed + n) o.establishment h) (one ++ g ∷ [])
+    (other ++ g ∷ [])
+same_history o (SendUnit ∷ outs) h one other =
+    let g = unit_frame o.octets in
+    same_history o outs h (one ++ g ∷ []) (other ++ g ∷ [])
+same_history o (Up ∷ outs) h one other =
+    same_history o outs (with_receipt
+    (record { octets = o.octets; establishment = o.establishment; place = o.place }) h) one other
+same_history o (UnitUp ∷ outs) h one other = same_history o outs (with_unit o.octets h) one other
+same_history o (Acknowledged n ∷ outs) h one other =
+    same_history o outs (with_acked n h) one other
+same_history o (Dropped n ∷ outs) h one other = same_history o outs (with_dropped n h) one other
+same_history o (out ∷ outs) h one other = same_history o outs h one other
+
 -- a view after a step, and after the same step on an empty line
-record IsBeside (incoming outgoing : List Flight) (alone v : View) : Type 0 where
-  end : v.station.end ≡ alone.station.end
-  incoming_is : v.incoming ≡ incoming
-  outgoing_is : v.outgoing ≡ outgoing ++ alone.outgoing
+pub record IsBeside (incoming outgoing : List Flight) (alone v : View) : Type 0 where
+  pub end : v.station.end ≡ alone.station.end
+  pub incoming_is : v.incoming ≡ incoming
+  pub outgoing_is : v.outgoing ≡ outgoing ++ alone.outgoing
+  pub dropped : v.station.history.dropped ≡ alone.station.history.dropped
 
 module _ (x : Station) (incoming outgoing : List Flight) where
-  abbrev full : View
+  abbrev pub full : View
   full = seeing x incoming outgoing
 
-  abbrev alone : View
+  abbrev pub alone : View
   alone = seeing x [] []
 
-  abbrev Beside : PairEvent → Type 0
+  abbrev pub Beside : PairEvent → Type 0
   Beside event =
       IsBeside incoming outgoing (left_by alone (acts Whole side.User event alone))
       (left_by full (acts Whole side.User event full))
@@ -148,6 +173,8 @@ module _ (x : Station) (incoming outgoing : List Flight) where
             subst (λ l. (after_outputs o s.outs (record { line = l; history = h })).line
             ≡ outgoing ++ (after_outputs o s.outs (record { line = []; history = h })).line)
             (append-nil outgoing) (outputs_behind o outgoing s.outs h []);
+        dropped =
+            ap (λ (k : History). k.dropped) (same_history o s.outs h outgoing []);
       }
 
   t203_stepped : IsBeside incoming outgoing (left_by alone (takes Whole (Expiry T203) [] alone))
@@ -170,9 +197,11 @@ module _ (x : Station) (incoming outgoing : List Flight) where
             subst (λ l. (after_outputs o s.outs (record { line = l; history = h })).line
             ≡ outgoing ++ (after_outputs o s.outs (record { line = []; history = h })).line)
             (append-nil outgoing) (outputs_behind o outgoing s.outs h []);
+        dropped =
+            ap (λ (k : History). k.dropped) (same_history o s.outs h outgoing []);
       }
 
-  t200_beside : is_ok (acts Whole side.User Expire200 full) ≡ true → Beside Expire200
+  pub t200_beside : is_ok (acts Whole side.User Expire200 full) ≡ true → Beside Expire200
   t200_beside ok =
       let on = t200_runs full ok in
       let F : Result ViewStep Refusal → Type 0 =
@@ -183,7 +212,7 @@ module _ (x : Station) (incoming outgoing : List Flight) where
       (left_by alone (takes Whole (Expiry T200) [] alone)) (left_by full r))
       (sym (t200_taken ok)) t200_stepped)
 
-  t203_beside : is_ok (acts Whole side.User Expire203 full) ≡ true → Beside Expire203
+  pub t203_beside : is_ok (acts Whole side.User Expire203 full) ≡ true → Beside Expire203
   t203_beside ok =
       let on = t203_runs full ok in
       let F : Result ViewStep Refusal → Type 0 =

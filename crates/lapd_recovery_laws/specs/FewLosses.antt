@@ -8,6 +8,7 @@ use Rattle.lapd_link_definition.specs.End.{End}
 use Rattle.lapd_pair_laws.specs.Move.{Move}
 use Rattle.lapd_pair_laws.specs.World.{World, run, left}
 use Rattle.lapd_recovery_laws.specs.Deliveries.{frames}
+use Rattle.lapd_recovery_laws.specs.EarlyTimers.{AreLineMoves}
 use Rattle.lapd_recovery_laws.specs.Losses.{AreOwnOrLosses, losses}
 use Rattle.lapd_recovery_laws.specs.OpenLine.{IsUp}
 use Rattle.lapd_recovery_laws.specs.Own.{Rests, IsFree}
@@ -35,12 +36,13 @@ pub record StaysOpen (w now : World) : Type 0 where
 abbrev pub most_open_moves : ℕ → World → ℕ
 most_open_moves lost w = 2 * frames w + 3 * left w + 12 + lost * (4 * left w + 15)
 
--- From this world own moves and losses, in any order, are few. Both ends stay in states 7 and 8,
--- and no message is dropped. When no own move is possible any more, the link is up.
+-- From this world own moves and losses, in any order, are few. After deliveries, losses and expired
+-- timers, in any order, both ends are in states 7 and 8, and no message was dropped. When no own
+-- move is possible any more, the link is up.
 pub record KeepsAll (r : Reading) (lost : ℕ) (w : World) : Type 0 where
   pub few : (moves : List Move) → AreOwnOrLosses r moves w → losses moves ≤ lost
       → length moves ≤ most_open_moves lost w
-  pub stays : (moves : List Move) → AreOwnOrLosses r moves w → losses moves ≤ lost
+  pub stays : (moves : List Move) → AreLineMoves r moves w → losses moves ≤ lost
       → StaysOpen w (run r moves w)
-  pub up : (moves : List Move) → AreOwnOrLosses r moves w → losses moves ≤ lost
+  pub up : (moves : List Move) → AreLineMoves r moves w → losses moves ≤ lost
       → Rests r (run r moves w) → IsUp w (run r moves w)

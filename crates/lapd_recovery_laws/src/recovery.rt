@@ -304,15 +304,17 @@ pub fn early_timers_are_computed()
         ≡ both_in_7 7 1 1) }
 {}
 
-/// Few losses drop no message. Suppose that both ends are in state 7 or 8 and neither is own
-/// receiver busy, with frames in transit or not. Fewer frames are lost than each end retransmits at
-/// most, and in state 8 fewer than its retransmissions that are left. Then, after own moves and
-/// losses in any order, both ends are in state 7 or 8, and no message was dropped. When no own move
-/// is possible any more, both ends are in state 7 with equal numbers, and each message that was not
-/// dropped before was received and acknowledged. Own moves and losses are at most two per frame in
-/// transit, three per message left, and 12 more, and for each frame that may be lost, four per
-/// message left and 15 more, whatever N200 is. The run starts in a new world, on whole numbers or
-/// on tags, with windows of 1 to 127 and either `Recovery`.
+/// Few losses drop no message, whenever timers expire. Suppose that both ends are in state 7 or 8 and
+/// neither is own receiver busy, with frames in transit or not. Fewer frames are lost than each end
+/// retransmits at most, and in state 8 fewer than its retransmissions that are left. T200 expires
+/// wherever it runs, but not while a command with P=1 of its end, or the response to it, is in
+/// transit; and T203 wherever it runs. Then, after deliveries, losses and expired timers in any
+/// order, both ends are in state 7 or 8, and no message was dropped. When no own move is possible any
+/// more, both ends are in state 7 with equal numbers, and each message that was not dropped before
+/// was received and acknowledged. If timers expire as in [`every_world_comes_back`], the moves are at
+/// most two per frame in transit, three per message left, and 12 more, and for each frame that may be
+/// lost, four per message left and 15 more, whatever N200 is. The run starts in a new world, on whole
+/// numbers or on tags, with windows of 1 to 127 and either `Recovery`.
 pub fn few_losses_drop_nothing()
     ensures { (r : Reading) (user network : Parameters)
         → user.k ≤ 127 → network.k ≤ 127 → 1 ≤ user.k → 1 ≤ network.k → (moves : List Move)
