@@ -18,6 +18,7 @@ use Rattle.lapd_pair_laws.specs.Kinds.{kind, kinds, messages, rejections, tally,
 use Rattle.lapd_pair_laws.proofs.ActionEffects.{Context, story}
 use Rattle.lapd_pair_laws.proofs.Flow.{IsWhole}
 use Rattle.lapd_pair_laws.proofs.Lists.{by_test, tally_append}
+use Rattle.lapd_pair_laws.proofs.WorkOfActions.{AreReady}
 use Rattle.lapd_pair_laws.proofs.States.{next_sent, next_puts, ensure_puts, rr_puts}
 use Rattle.lapd_recovery_laws.proofs.Proceeding.{weight_of, weigh, whole_joined, none_rejected}
 
@@ -73,6 +74,12 @@ pub record Closes (c : Context) (s t : StepState) : Type 0 where
   pub light : weigh (kinds frames) + pending t.end ≤ sent + pending s.end
   pub same : unsending t.end ≡ unsending s.end
   pub calm : IsCalm c s t
+  pub ready : AreReady frames
+  pub timed : t.end.t200 ≡ true → (s.end.t200 ≡ true) ⊎ (1 ≤ sent)
+
+pub ready_append : (fs gs : List Flight) → AreReady fs → AreReady gs → AreReady (fs ++ gs)
+ready_append [] gs one other = other
+ready_append (f ∷ fs) gs one other = (one.0, ready_append fs gs one.1 other)
 
 closes_none : (c : Context) (s : StepState) → Closes c s s
 closes_none c s = record {
@@ -88,6 +95,8 @@ closes_none c s = record {
   light = omega arith;
   same = refl;
   calm = record { rc = refl; dropped = refl };
+  ready = tt;
+  timed = λ on. inl on;
 }
 
 then_closes : {c : Context} {s t u : StepState} → Closes c s t → Closes c t u → Closes c s u
@@ -117,8 +126,20 @@ then_closes {c = c} {s = s} {t = t} {u = u} a b =
           let p = a.light in let q = b.light in omega (arith, sum, p, q);
       same = b.same ∙ a.same;
       calm = then_calm a.calm b.calm;
+      ready = ready_append a.frames b.frames a.ready b.ready;
+      timed = λ on. by_second (b.timed on);
     }
   where
+    by_first : (s.end.t200 ≡ true) ⊎ (1 ≤ a.sent)
+        → (s.end.t200 ≡ true) ⊎ (1 ≤ a.sent + b.sent)
+    by_first (inl on) = inl on
+    by_first (inr some) = inr (omega (arith, some))
+
+    by_second : (t.end.t200 ≡ true) ⊎ (1 ≤ b.sent)
+        → (s.end.t200 ≡ true) ⊎ (1 ≤ a.sent + b.sent)
+    by_second (inl on) = by_first (a.timed on)
+    by_second (inr some) = inr (omega (arith, some))
+
     by_both : (a.sent ≡ 0) ⊎ (s.end.state ≡ MultipleFrameEstablished)
         → (b.sent ≡ 0) ⊎ (t.end.state ≡ MultipleFrameEstablished)
         → (a.sent + b.sent ≡ 0) ⊎ (s.end.state ≡ MultipleFrameEstablished)
@@ -155,6 +176,8 @@ closes_next c s go =
         dropped =
             (ensure_puts c (transmit_i_frame Whole s)).dropped ∙ (next_puts c s).dropped;
       };
+      ready = (refl, tt);
+      timed = λ on. inr (omega arith);
     }
 
 closes_rr : (c : Context) (s : StepState) → s.end.window.ack_pending ≡ true
@@ -173,6 +196,8 @@ closes_rr c s on = record {
   light = let one : pending s.end ≡ 1 = ap pending_in on in omega (arith, one);
   same = refl;
   calm = record { rc = refl; dropped = (rr_puts c s).dropped };
+  ready = (refl, tt);
+  timed = λ on. inl on;
 }
 
 closes_all : (c : Context) (n : ℕ) (s : StepState) → Closes c s (send_all Whole n s)

@@ -52,7 +52,7 @@ use Rattle.lapd_recovery_laws.proofs.AnyOrder.{none_there, none_there_too}
 use Rattle.lapd_recovery_laws.proofs.OneMoreFrame.{seeing}
 use Rattle.lapd_recovery_laws.proofs.CountedMoves.{after}
 use Rattle.lapd_recovery_laws.proofs.EndSends.{kinds_append, stops_full}
-use Rattle.lapd_recovery_laws.proofs.FewLosses.{IsOpen, stays_open}
+use Rattle.lapd_recovery_laws.proofs.StaysOpen.{IsOpen, stays_open}
 use Rattle.lapd_recovery_laws.proofs.PeerReleased.{t200_runs, t203_runs, ok_of_side}
 use Rattle.lapd_recovery_laws.proofs.LoneSteps.{Polls, closes_in_8, polls_by_t200}
 use Rattle.lapd_recovery_laws.proofs.Lost.{at}

@@ -14,6 +14,8 @@ pub mod DiscSent
 pub mod EndSends
 pub mod Establishes
 pub mod EveryWorld
+pub mod Expiries
+pub mod ExpiriesOfTimers
 pub mod Exchanges
 pub mod FewLosses
 pub mod HalfSteps
@@ -33,6 +35,8 @@ pub mod OpenAfterRuns
 pub mod OpenDelivers
 pub mod OpenFrames
 pub mod OpenLine
+pub mod OpenMoves
+pub mod OpenTimers
 pub mod Outage
 pub mod OutageWorlds
 pub mod OwnOnTags
@@ -48,6 +52,7 @@ pub mod Retry
 pub mod RunsEmpty
 pub mod SendsOn
 pub mod Situations
+pub mod StaysOpen
 pub mod TimersBeside
 pub mod TimersExpire
 pub mod TimersOfRuns

@@ -28,6 +28,8 @@ use Rattle.lapd_pair_laws.proofs.Lists.{by_test}
 use Rattle.lapd_pair_laws.proofs.Steps.{context}
 use Rattle.lapd_pair_laws.proofs.States.{enquiry_puts, last_sent, last_puts}
 use Rattle.lapd_pair_laws.proofs.Worlds.{left_by}
+use Rattle.lapd_pair_laws.proofs.WorkOfActions.{is_ready}
+use Rattle.lapd_recovery_laws.proofs.Replies.{ready_status}
 use Rattle.lapd_recovery_laws.proofs.OneMoreFrame.{seeing}
 use Rattle.lapd_recovery_laws.proofs.ClosedSteps.{Yields}
 use Rattle.lapd_link_definition.proofs.ComputedStep.{each_change, each_row}
@@ -109,6 +111,7 @@ pub record Polls (x : Station) (rc : ℕ) (v : View) : Type 0 where
   pub polled : HasPolled x.end rc v.station.end
   pub frame : Flight
   pub ignored : is_ignored frame.control ≡ true
+  pub ready : x.end.window.own_busy ≡ false → is_ready frame.control ≡ true
   pub polls : poll_of (kind frame) ≡ 1
   pub outgoing : v.outgoing ≡ frame ∷ []
   pub incoming : v.incoming ≡ []
@@ -125,6 +128,7 @@ module _ (x : Station) where
     polled : HasPolled x.end rc s.end
     frame : Flight
     ignored : is_ignored frame.control ≡ true
+    ready : x.end.window.own_busy ≡ false → is_ready frame.control ≡ true
     polls : poll_of (kind frame) ≡ 1
     line : (story c s).line ≡ frame ∷ []
     none_dropped : (story c s).history.dropped ≡ x.history.dropped
@@ -135,6 +139,7 @@ module _ (x : Station) where
     polled = p.polled;
     frame = p.frame;
     ignored = p.ignored;
+    ready = p.ready;
     polls = p.polls;
     outgoing = p.line;
     incoming = refl;
@@ -160,6 +165,9 @@ module _ (x : Station) where
         };
         frame = u;
         ignored = ignored_status s.end.window;
+        ready =
+            λ off. ready_status s.end.window
+            (ap (λ (w : StateVariables). w.own_busy) same_window ∙ off);
         polls = ap poll_of (enquiry_kind s.end.window);
         line = (enquiry_puts c s).line ∙ ap (λ l. l ++ u ∷ []) none;
         none_dropped = (enquiry_puts c s).dropped ∙ same_dropped;
@@ -186,6 +194,7 @@ module _ (x : Station) where
         };
         frame = u;
         ignored = refl;
+        ready = λ off. refl;
         polls = refl;
         line = (last_puts c (expired T200 s)).line;
         none_dropped = (last_puts c (expired T200 s)).dropped;
@@ -205,6 +214,7 @@ module _ (x : Station) where
         };
         frame = u;
         ignored = ignored_status x.end.window;
+        ready = ready_status x.end.window;
         polls = ap poll_of (enquiry_kind x.end.window);
         line = (enquiry_puts c (expired T200 s)).line;
         none_dropped = (enquiry_puts c (expired T200 s)).dropped;
@@ -243,6 +253,7 @@ module _ (x : Station) where
         };
         frame = without_info Command (status_frame true x.end.window);
         ignored = ignored_status x.end.window;
+        ready = ready_status x.end.window;
         polls = ap poll_of (enquiry_kind x.end.window);
         line = (enquiry_puts c s).line;
         none_dropped = (enquiry_puts c s).dropped;

@@ -11,8 +11,9 @@ use Rattle.lapd_pair_laws.specs.Parties.{Reception, received_in, OnReception}
 use Rattle.lapd_pair_laws.proofs.ActionEffects.{Context, story}
 use Rattle.lapd_pair_laws.proofs.Flow.{IsWhole, IsInTransit, fresh}
 use Rattle.lapd_pair_laws.proofs.Lists.{tally_append}
+use Rattle.lapd_pair_laws.proofs.WorkOfActions.{AreReady}
 use Rattle.lapd_recovery_laws.specs.Own.{IsFree}
-use Rattle.lapd_recovery_laws.proofs.EndSends.{Unsending, pending_in, pending, kinds_append, Closes, end_closes, Full, end_full}
+use Rattle.lapd_recovery_laws.proofs.EndSends.{Unsending, pending_in, pending, kinds_append, ready_append, Closes, end_closes, Full, end_full}
 use Rattle.lapd_recovery_laws.proofs.Proceeding.{weight_of, weigh, plain_of, heard, extra, extra_open, Arrives, Hears, Proceeds, hears_more, whole_joined, none_rejected, missing_in, missing, load, load_open, load_less, once_more, once_more_few, fresh_few, Share, Pays, Advances}
 use Rattle.lapd_recovery_laws.proofs.Replies.{Sending, Receiving, receiving, Falls, Lacks, Replies, Backs}
 
@@ -90,7 +91,7 @@ pub impossible : {A : Type 0} (b : Bool) → b ≡ true → b ≡ false → A
 impossible true on off = cc
 impossible false on off = cc
 
-rest_wanted : (k : Kind) (ks : List Kind) → rejections (k ∷ ks) ≡ [] → rejections ks ≡ []
+pub rest_wanted : (k : Kind) (ks : List Kind) → rejections (k ∷ ks) ≡ [] → rejections ks ≡ []
 rest_wanted k ks none = by_first (rejection_of k) none
   where
     by_first : (l : List ℕ) → l ++ rejections ks ≡ [] → rejections ks ≡ []
@@ -116,6 +117,7 @@ pub record Answered (vs : ℕ) (before : End) (k : Kind) (outgoing : List Flight
   pub plain : relief ≤ plain_of k
   pub less : waiting x ≤ waiting before
   pub own_busy : x.window.own_busy ≡ before.window.own_busy
+  pub ready : before.window.own_busy ≡ false → AreReady new
   pub busy : before.window.own_busy ≡ true
       → (rejections (kinds new) ≡ []) × Lacks vs (receiving before) (receiving x) relief
   pub idle : before.window.own_busy ≡ false → (end : ℕ) (ks : List Kind)
@@ -311,6 +313,7 @@ answered_so c k s t outgoing begun r =
       own_busy =
           ap (λ (v : Unsending). v.own_busy) cl.same
           ∙ ap (λ (v : Sending). v.own_busy) r.sending_same;
+      ready = λ off. ready_append r.frames cl.frames (r.ready off) cl.ready;
       busy =
           λ on. let two =
           r.busy on in (

@@ -199,7 +199,7 @@ module _ (station peer : Station) (frame : Flight) (rest outgoing : List Flight)
     abbrev Done : Kind → StepState → Type 0
     Done k t =
         Delivered e peer.end k ks outgoing (end_step Whole t).end (story c (end_step Whole t)).line
-        × ((ask_of k ≡ 0 → Open k t) × Unrefused (end_step Whole t))
+        × ((ask_of k ≡ 0 → Open k t × Turns c k ks s t) × Unrefused (end_step Whole t))
 
     abbrev Arriving : Kind → Type 0
     Arriving k = HoldsMid c (k ∷ ks) s
@@ -286,12 +286,12 @@ module _ (station peer : Station) (frame : Flight) (rest outgoing : List Flight)
       by_answer e
           (end_step Whole t).end peer.end k ks outgoing (story c (end_step Whole t)).line opened
           (answered_so c k s t outgoing refl r),
-      (λ _. open_answer k t r, answer_unrefused k t r),
+      (λ _. (open_answer k t r, inl r), answer_unrefused k t r),
     )
     by_turn k t (inr b) = (
       by_back c peer.end k ks s t outgoing refl opened b b.arrives b.awaited
           (ap pending_in none_pending) (λ p. b.unwanted p.in_7 p.wanted),
-      (λ _. open_back k t b, back_unrefused k t b),
+      (λ _. (open_back k t b, inr b), back_unrefused k t b),
     )
 
     queue : unsent e ≤ waiting e
@@ -655,7 +655,7 @@ module _ (station peer : Station) (frame : Flight) (rest outgoing : List Flight)
         subst (λ control. is_7_or_8 (state_after e.state control frame.role) ≡ true) (sym is.0)
         (subst (λ role. is_7_or_8 (state_after e.state (Sabme true) role) ≡ true) (sym is.1)
         (ap is_7_or_8 (by_sabme_7 e.state opened)))
-    open_by_request (inr none) = (open_delivered.1.0 none).open_state
+    open_by_request (inr none) = (open_delivered.1.0 none).0.open_state
 
     -- it does not enter state 5
     pub never_5 : state_after e.state frame.control frame.role ≡ AwaitingEstablishment → ⊥

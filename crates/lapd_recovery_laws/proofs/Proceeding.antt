@@ -161,7 +161,7 @@ next_arrives : (low end : ℕ) (fs : List Kind) (o : Option (List Kind))
 next_arrives low end fs None w a = tt
 next_arrives low end fs (Some l) w a = whole_joined 0 low end l fs a w
 
-now_arrives : (rejecting : Bool) (vr low end : ℕ) (out fs : List Kind)
+pub now_arrives : (rejecting : Bool) (vr low end : ℕ) (out fs : List Kind)
     → IsWhole low end (messages fs) → IsInTransit rejecting vr low (messages out)
     → IsInTransit rejecting vr end (messages (out ++ fs))
 now_arrives rejecting vr low end out fs w a =

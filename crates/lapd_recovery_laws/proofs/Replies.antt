@@ -8,7 +8,7 @@ use Rattle.lapd_mod128.specs.Counting.{Whole, after}
 use Rattle.lapd_supervision.specs.StateVariables.{StateVariables, status_frame, poll_response, Receives}
 use Rattle.lapd_supervision.proofs.Receiving.{received_while_busy, received_in_sequence, received_out_of_sequence, received_while_rejecting}
 use Rattle.lapd_link_definition.specs.declared.state.State.{State}
-use Rattle.lapd_link_definition.specs.declared.state.State.TheVariants.{MultipleFrameEstablished}
+use Rattle.lapd_link_definition.specs.declared.state.State.TheVariants.{MultipleFrameEstablished, TimerRecovery}
 use Rattle.lapd_link_definition.specs.End.{End, StepState, unsent, waiting}
 use Rattle.lapd_link_definition.specs.Procedures.{i_frame_ns}
 use Rattle.lapd_pair_laws.specs.Line.{Flight, without_info}
@@ -20,6 +20,7 @@ use Rattle.lapd_pair_laws.proofs.Flow.{IsInTransit, fresh}
 use Rattle.lapd_pair_laws.proofs.Receives.{current, left, as_received}
 use Rattle.lapd_pair_laws.proofs.Sends.{same_or_not}
 use Rattle.lapd_pair_laws.proofs.States.{PutsFrame, unanswered_puts, answered_puts}
+use Rattle.lapd_pair_laws.proofs.WorkOfActions.{is_ready, AreReady}
 use Rattle.lapd_pair_laws.proofs.StreamReceipts.{whole_taken, junk_passed}
 use Rattle.lapd_recovery_laws.proofs.EndSends.{pending_in, pending, IsCalm, then_calm}
 use Rattle.lapd_recovery_laws.proofs.Proceeding.{weight_of, weigh, plain_of, Arrives}
@@ -94,6 +95,7 @@ pub record Replies (c : Context) (k : Kind) (s t : StepState) : Type 0 where
   pub calm : IsCalm c s t
   pub finals : poll_of k ≤ tally final_of (kinds frames)
   pub no_final : final_of k ≡ 0
+  pub ready : s.end.window.own_busy ≡ false → AreReady frames
   pub busy : s.end.window.own_busy ≡ true
       → (rejections (kinds frames) ≡ [])
       × Lacks c.peer.sends.vs (receiving s.end) (receiving t.end) relief
@@ -126,6 +128,7 @@ pub record Backs (c : Context) (k : Kind) (ks : List Kind) (s t : StepState) : T
   pub no_poll : poll_of k ≡ 0
   pub wanted : rejections ks ≡ []
   pub unwanted : s.end.state ≡ MultipleFrameEstablished → rejections (k ∷ ks) ≡ [] → ⊥
+  pub final : s.end.state ≡ TimerRecovery → final_of k ≡ 1
   pub arrives : OnReception (Arrives nr) (receives c.peer (kinds (story c s).line))
 
 abbrev pub Turns : Context → Kind → List Kind → StepState → StepState → Type 0
@@ -151,6 +154,7 @@ keeps_replies {c = c} {k = k} {u = u} a r = record {
   calm = then_calm a.calm r.calm;
   finals = r.finals;
   no_final = r.no_final;
+  ready = λ off. r.ready (ap (λ (v : Sending). v.own_busy) a.sending_same ∙ off);
   busy =
       λ is. let both =
       r.busy (ap (λ (v : Sending). v.own_busy) a.sending_same ∙ is) in (
@@ -190,6 +194,7 @@ replies_keep {c = c} {k = k} {s = s} r a = record {
   calm = then_calm r.calm a.calm;
   finals = r.finals;
   no_final = r.no_final;
+  ready = r.ready;
   busy =
       λ is. let both =
       r.busy is in (
@@ -231,6 +236,7 @@ passes {c = c} {s = s} {t = t} k none no_poll no_final no_ack some a = record {
   calm = a.calm;
   finals = omega (arith, no_poll);
   no_final = no_final;
+  ready = λ off. tt;
   busy =
       λ is. (
         refl,
@@ -247,10 +253,15 @@ passes {c = c} {s = s} {t = t} k none no_poll no_final no_ack some a = record {
   );
 }
 
+-- an end that is not own receiver busy sends no RNR
+pub ready_status : (w : StateVariables) → w.own_busy ≡ false → is_ready (status_frame true w) ≡ true
+unfolding status_frame
+ready_status w off = rw off refl
+
 -- one frame answers
 pub answers_by : (c : Context) (k : Kind) (s t : StepState) (u : Control) (q : Kind)
     → kind_of Answer u [] 0 ≡ q → message_of q ≡ [] → answer_of q ≡ 0 → weight_of q ≡ 1
-    → poll_of k ≤ final_of q → final_of k ≡ 0 → t.end.rc ≡ s.end.rc → (relief : ℕ)
+    → (s.end.window.own_busy ≡ false → is_ready u ≡ true) → poll_of k ≤ final_of q → final_of k ≡ 0 → t.end.rc ≡ s.end.rc → (relief : ℕ)
     → weight_of k + relief ≡ 2 → Falls c.peer.sends.vs (receiving s.end) (receiving t.end) relief
     → relief ≤ plain_of k
     → PutsFrame c (without_info Answer u) s t → t.end.window.ack_pending ≡ false
@@ -264,7 +275,7 @@ pub answers_by : (c : Context) (k : Kind) (s t : StepState) (u : Control) (q : K
     → (rejection_of q ≡ []) × IsInTransit t.end.window.rejecting t.end.window.vr end
     (messages ks) × Lacks c.peer.sends.vs (receiving s.end) (receiving t.end) relief)
     → Replies c k s t
-answers_by c k s t u q is no_message no_answer one polls no_final rc relief two falls plain puts
+answers_by c k s t u q is no_message no_answer one ready polls no_final rc relief two falls plain puts
     no_ack same first busy idle =
     let all : kinds (without_info Answer u ∷ []) ≡ q ∷ [] = ap (λ k. k ∷ []) is in
     record {
@@ -289,6 +300,7 @@ answers_by c k s t u q is no_message no_answer one polls no_final rc relief two 
           ap (λ ks. tally final_of ks) all in
           omega (arith, f, polls);
       no_final = no_final;
+      ready = λ off. (ready off, tt);
       busy = λ is. let both = busy is in (ap rejections all ∙ ap (λ l. l ++ []) both.0, both.1);
       idle =
           λ is end ks there. let three =
@@ -321,8 +333,8 @@ module _ (c : Context) (ns nr : ℕ) (s : StepState)
   -- the answer is this one, and the variables are these
   answered : (p accepted : Bool) (now : StateVariables) (u : Control) (q : Kind)
       → Receives Whole ns p w now accepted (Some u) → kind_of Answer u [] 0 ≡ q → message_of q ≡ []
-      → answer_of q ≡ 0 → weight_of q ≡ 1 → poll_of (k p) ≤ final_of q
-      → (relief : ℕ) → weight_of (k p) + relief ≡ 2 → Falls pvs was (becomes now) relief
+      → answer_of q ≡ 0 → weight_of q ≡ 1 → (w.own_busy ≡ false → is_ready u ≡ true)
+      → poll_of (k p) ≤ final_of q → (relief : ℕ) → weight_of (k p) + relief ≡ 2 → Falls pvs was (becomes now) relief
       → relief ≤ plain_of (k p)
       → now.ack_pending ≡ false → now.vs ≡ w.vs → now.own_busy ≡ w.own_busy
       → (w.own_busy ≡ true → (rejection_of q ≡ []) × Lacks pvs was (becomes now) relief)
@@ -330,12 +342,12 @@ module _ (c : Context) (ns nr : ℕ) (s : StepState)
       (messages (k p ∷ ks)) → (rejection_of q ≡ []) × IsInTransit now.rejecting now.vr end
       (messages ks) × Lacks pvs was (becomes now) relief)
       → Replies c (k p) s (i_frame_ns Whole ns p s)
-  answered p accepted now u q r is no_message no_answer one polls relief two falls plain no_ack
+  answered p accepted now u q r is no_message no_answer one ready polls relief two falls plain no_ack
       same_vs same_busy busy idle =
       subst (λ (t : StepState). Replies c (k p) s t)
       (sym (as_received ns p s now accepted (Some u) r))
-      (answers_by c (k p) s (left s now accepted (Some u)) u q is no_message no_answer one polls
-      refl refl relief two falls plain (answered_puts c s now accepted u) no_ack
+      (answers_by c (k p) s (left s now accepted (Some u)) u q is no_message no_answer one ready
+      polls refl refl relief two falls plain (answered_puts c s now accepted u) no_ack
       (both same_vs same_busy) (omega arith) busy idle)
     where
       both : now.vs ≡ w.vs → now.own_busy ≡ w.own_busy
@@ -367,6 +379,7 @@ module _ (c : Context) (ns nr : ℕ) (s : StepState)
         calm = record { rc = refl; dropped = (unanswered_puts c s now accepted).dropped };
         finals = omega (arith, no_poll);
         no_final = refl;
+        ready = λ off. tt;
         busy = λ is. (refl, lacks);
         idle = λ is end ks there. (refl, idle is end ks there, lacks);
       })
@@ -389,7 +402,7 @@ module _ (c : Context) (ns nr : ℕ) (s : StepState)
   taken true free is below =
       answered true true (record w { vr = w.vr + 1; rejecting = false; ack_pending = false })
       (Rr (w.vr + 1) true) (Final (w.vr + 1)) (received_in_sequence Whole ns true w free is) refl
-      refl refl refl (omega arith)
+      refl refl refl (λ off. refl) (omega arith)
       0 refl (accepted_falls w.rejecting 0 (omega arith) below) (omega arith) refl refl refl
       (λ on. (refl, omega (arith, below)))
       (λ off end
@@ -417,7 +430,7 @@ module _ (c : Context) (ns nr : ℕ) (s : StepState)
   rejected_row true free other not_yet =
       answered true false (record w { rejecting = true; ack_pending = false }) (Rej w.vr true)
       (Final w.vr) (received_out_of_sequence Whole ns true w free other not_yet) refl refl refl refl
-      (omega arith)
+      (λ off. refl) (omega arith)
       0 refl (rejected_falls w.rejecting 0 not_yet (omega arith)) (omega arith) refl refl refl
       (λ on. impossible w.own_busy on free)
       (λ off end ks there. let first : IsInTransit false w.vr end
@@ -427,7 +440,7 @@ module _ (c : Context) (ns nr : ℕ) (s : StepState)
   rejected_row false free other not_yet =
       answered false false (record w { rejecting = true; ack_pending = false }) (Rej w.vr false)
       (Rejection w.vr) (received_out_of_sequence Whole ns false w free other not_yet) refl refl refl
-      refl (omega arith)
+      refl (λ off. refl) (omega arith)
       1 refl (rejected_falls w.rejecting 1 not_yet (omega arith)) (omega arith) refl refl refl
       (λ on. impossible w.own_busy on free)
       (λ off end ks there. let first : IsInTransit false w.vr end
@@ -444,7 +457,7 @@ module _ (c : Context) (ns nr : ℕ) (s : StepState)
   unfolding poll_response
   discarded true r idle =
       answered true false (record w { ack_pending = false }) (status_frame true w) (Final w.vr) r
-      (final_kind w) refl refl refl (omega arith)
+      (final_kind w) refl refl refl (ready_status w) (omega arith)
       0 refl (omega arith) (omega arith) refl refl refl (λ on. (refl, omega arith))
       (λ off end ks there. (refl, idle off end ks there, omega arith))
   discarded false r idle = unanswered false false (record w { ack_pending = w.ack_pending }) r refl

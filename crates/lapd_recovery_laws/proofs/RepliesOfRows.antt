@@ -15,7 +15,7 @@ use Rattle.lapd_link_definition.specs.Input.{Heard}
 use Rattle.lapd_link_definition.specs.Procedures.{out_where, state_to, start, stop, set_peer_busy, enquiry_response, acknowledge, invoke_retransmission, i_frame_ns}
 use Rattle.lapd_link_definition.specs.TimerRecovery.{poll, i_frame_nr_in_recovery, rr_nr_in_recovery, rnr_nr_in_recovery, timer_recovery}
 use Rattle.lapd_pair_laws.specs.Move.{story_after}
-use Rattle.lapd_pair_laws.specs.Kinds.{Kind, Status, Rejection, Enquiry, Final, kind_of, kinds, message_of, numbers, rejections, poll_of}
+use Rattle.lapd_pair_laws.specs.Kinds.{Kind, Status, Rejection, Enquiry, Final, kind_of, kinds, message_of, numbers, rejections, poll_of, final_of}
 use Rattle.lapd_pair_laws.specs.Conjuncts.{IsNumbering}
 use Rattle.lapd_link_definition.specs.EndOfStep.{is_7_or_8}
 use Rattle.lapd_pair_laws.specs.Parties.{receives, OnReception}
@@ -32,7 +32,7 @@ use Rattle.lapd_pair_laws.proofs.Runs.{climb_top}
 use Rattle.lapd_pair_laws.proofs.States.{start_200_puts, start_203_puts, stop_200_puts, acknowledge_puts, response_puts}
 use Rattle.lapd_recovery_laws.proofs.EndSends.{IsCalm, then_calm}
 use Rattle.lapd_recovery_laws.proofs.Proceeding.{weight_of, Arrives}
-use Rattle.lapd_recovery_laws.proofs.Replies.{Sending, receiving, Keeps, then_keeps, Replies, Backs, Turns, keeps_replies, replies_keep, passes, answers_by, replies_ns}
+use Rattle.lapd_recovery_laws.proofs.Replies.{Sending, receiving, Keeps, then_keeps, Replies, Backs, Turns, keeps_replies, replies_keep, passes, ready_status, answers_by, replies_ns}
 
 -- ---- N(R), and timers.
 
@@ -162,7 +162,8 @@ response_replies : (c : Context) (nr : ℕ) (s : StepState)
 unfolding enquiry_response without_ack_pending
 response_replies c nr s =
     answers_by c (Enquiry nr) s (enquiry_response s) (status_frame true s.end.window)
-    (Final s.end.window.vr) (final_kind s.end.window) refl refl refl (omega arith) refl refl 0 refl
+    (Final s.end.window.vr) (final_kind s.end.window) refl refl refl (ready_status s.end.window)
+    (omega arith) refl refl 0 refl
     (omega arith) (omega arith) (response_puts c s) refl refl (omega arith)
     (λ on. (refl, omega arith)) (λ off end ks there. (refl, there, omega arith))
 
@@ -179,7 +180,7 @@ record IsQueued (s : StepState) (nr : ℕ) : Type 0 where
 back_row : (c : Context) (k : Kind) (ks : List Kind) (nr : ℕ) (s t : StepState) → message_of k ≡ []
     → weight_of k ≡ 1 → poll_of k ≡ 0 → rejections ks ≡ []
     → (s.end.state ≡ MultipleFrameEstablished → rejections (k ∷ ks) ≡ [] → ⊥)
-    → OnReception (Arrives nr) (receives c.peer (line c s)) → (story c t).line ≡ (story c s).line
+    → (s.end.state ≡ TimerRecovery → final_of k ≡ 1) → OnReception (Arrives nr) (receives c.peer (line c s)) → (story c t).line ≡ (story c s).line
     → IsCalm c s t → t.end.state ≡ MultipleFrameEstablished
     → t.end.window.vs ≡ nr → t.end.next ≡ t.end.first → t.end.given ≡ s.end.given
     → t.end.window.own_busy ≡ s.end.window.own_busy → receiving t.end ≡ receiving s.end
@@ -187,7 +188,7 @@ back_row : (c : Context) (k : Kind) (ks : List Kind) (nr : ℕ) (s t : StepState
     → t.end.window.va ≡ nr → t.end.parameters.k ≡ s.end.parameters.k
     → (s.end.state ≡ MultipleFrameEstablished → t.end.window.peer_busy ≡ false) → IsQueued s nr
     → (is_7_or_8 c.peer.state ≡ true → c.peer.takes.vr ≡ nr) → Backs c k ks s t
-back_row c k ks nr s t no_message light no_poll wanted unwanted arrives same calm in_7 vs next given
+back_row c k ks nr s t no_message light no_poll wanted unwanted final arrives same calm in_7 vs next given
     own_busy receiving_same acked va same_k free q awaited =
     let low = q.low in
     let high = q.high in
@@ -216,6 +217,7 @@ back_row c k ks nr s t no_message light no_poll wanted unwanted arrives same cal
       no_poll = no_poll;
       wanted = wanted;
       unwanted = unwanted;
+      final = final;
       arrives = arrives;
     }
 
@@ -259,7 +261,8 @@ module _ (c : Context) (nr : ℕ) (ks : List Kind) (s : StepState)
       let a = acknowledge Whole nr s in
       let b = invoke_retransmission nr a in
       back_row c (Rejection nr) ks nr s (start T203 (stop T200 b)) refl refl refl
-      (sent_back_in_7 (seen c s) c.peer (line c s) nr ks is m).1 (λ in_7 none. cc) rej_arrives
+      (sent_back_in_7 (seen c s) c.peer (line c s) nr ks is m).1 (λ in_7 none. cc) (λ in_8. cc)
+      rej_arrives
       ((start_203_puts c (stop T200 b)).line ∙ (stop_200_puts c b).line
       ∙ (acknowledge_puts c s nr).line)
       (record {
@@ -302,7 +305,7 @@ module _ (c : Context) (nr : ℕ) (ks : List Kind) (s : StepState) (is : s.end.s
   rr_final_backs =
       let b = invoke_retransmission nr (acknowledge Whole nr s) in
       back_row c (Final nr) ks nr s (state_to MultipleFrameEstablished (start T203 (stop T200 b)))
-      refl refl refl final_wanted (λ in_7 none. cc) final_arrives
+      refl refl refl final_wanted (λ in_7 none. cc) (λ in_8. refl) final_arrives
       ((start_203_puts c (stop T200 b)).line ∙ (stop_200_puts c b).line
       ∙ (acknowledge_puts c s nr).line)
       (record {
@@ -322,7 +325,7 @@ module _ (c : Context) (nr : ℕ) (ks : List Kind) (s : StepState) (is : s.end.s
   rnr_final_backs =
       let b = invoke_retransmission nr (acknowledge Whole nr s) in
       back_row c (Final nr) ks nr s (state_to MultipleFrameEstablished (start T200 b)) refl refl
-      refl final_wanted (λ in_7 none. cc) final_arrives
+      refl final_wanted (λ in_7 none. cc) (λ in_8. refl) final_arrives
       ((start_200_puts c b).line ∙ (acknowledge_puts c s nr).line)
       (record {
         rc = refl;
@@ -381,6 +384,7 @@ keeps_backs {c = c} {s = s} {t = t} a b = record {
   no_poll = b.no_poll;
   wanted = b.wanted;
   unwanted = λ in_7 none. b.unwanted (ap (λ (v : Sending). v.state) a.sending_same ∙ in_7) none;
+  final = λ in_8. b.final (ap (λ (v : Sending). v.state) a.sending_same ∙ in_8);
   arrives = subst (λ l. OnReception (Arrives b.nr) (receives c.peer (kinds l))) a.line b.arrives;
 }
 

@@ -494,106 +494,115 @@ after s event w = world_after w (happens Whole (record { side = s; event = event
 -- at most `late` messages of an end in state 8 are in transit
 module _ (m late : ℕ) (x y : Station) (to_user to_network : List Flight)
     (i : IsInvariant (at x y to_user to_network)) (flow : Flow m (at x y to_user to_network))
-    (few : x.end.state ≡ TimerRecovery → messages_in to_network ≤ late) where
-  abbrev w : World
-  w = at x y to_user to_network
+  where
+    abbrev w : World
+    w = at x y to_user to_network
 
-  abbrev most : ℕ
-  most = m + 3 * waiting x.end + 3 * waiting y.end + 6 + late
+    abbrev most : ℕ
+    most = m + 3 * waiting x.end + 3 * waiting y.end + 6 + late
 
-  in_view : (v : View) (quiet : View) → IsInvariant (with_view side.User v w)
-      → IsBeside to_user to_network quiet v → IsMild x quiet
-      → ExpiresBeside most w (with_view side.User v w)
-  in_view v quiet now b k =
-      let out = kinds v.outgoing in
-      let back = kinds v.incoming in
-      let new = kinds quiet.outgoing in
-      let out_is : out ≡ kinds to_network ++ new =
-      ap kinds b.outgoing_is ∙ kinds_append to_network quiet.outgoing in
-      let back_is : back ≡ kinds to_user = ap kinds b.incoming_is in
-      let its_now : Both (party now.network_base y) (party now.user_base v.station) back out =
-      record { mine = now.both.its; its = now.both.mine } in
-      let mine =
-      load_few v.station y now.user_base now.network_base out back (flow.a + late) now.both
-      (λ shut. overtakes out new out_is (k.passed y.end (kinds to_network))
-      (k.closes (subst (λ e. is_7_or_8 e.state ≡ false) b.end shut))) in
-      let its =
-      load_few y v.station now.network_base now.user_base back out flow.b its_now
-      (λ shut. heard_less back back_is
-      (subst (λ e. extra e (kinds to_user) ≤ extra x.end (kinds to_user)) (sym b.end)
-      (k.heard (kinds to_user))) shut) in
-      let sum = ap (λ ks. weigh ks) out_is ∙ tally_append weight_of (kinds to_network) new in
-      let same : weigh back ≡ weigh (kinds to_user) = ap (λ ks. weigh ks) back_is in
-      let light = k.light in
-      let all = flow.most in
-      let fewer : waiting v.station.end ≤ waiting x.end =
-      subst (λ e. waiting e ≤ waiting x.end) (sym b.end) k.fewer in
-      record {
-        flow = record {
-          a = load v.station.end y.end out;
-          b = load y.end v.station.end back;
-          mine = inl (omega arith);
-          its = inl (omega arith);
-          most = omega (arith, mine, its, sum, same, light, all, fewer);
-        };
-        user_fewer = fewer;
-        network_fewer = omega arith;
-        user_free = λ free. subst IsFree (sym b.end) (k.free free);
-        network_free = λ free. free;
-      }
-    where
-      overtakes : (out new : List Kind) → out ≡ kinds to_network ++ new
-          → extra y.end (kinds to_network ++ new) ≤ extra y.end (kinds to_network)
-          → (is_7_or_8 x.end.state ≡ false) ⊎ (x.end.state ≡ TimerRecovery)
-          → extra y.end out ≤ flow.a + late
-      overtakes out new is passed (inl shut) =
-          let same = ap (λ ks. extra y.end ks) is in
-          let counts = closed_counts x.end y.end (kinds to_network) (kinds to_user) flow.a shut
-          flow.mine in
-          omega (arith, same, passed, counts)
-      overtakes out new is passed (inr in_8) =
-          let same = ap (λ ks. extra y.end ks) is in
-          let all = extra_few y.end (kinds to_network) in
-          let plain = messages_plain to_network in
-          let at_most = few in_8 in
-          omega (arith, same, passed, all, plain, at_most)
+    -- an end in state 8 that closes overtakes few
+    abbrev Few : View → Type 0
+    Few quiet =
+        is_7_or_8 quiet.station.end.state ≡ false → x.end.state ≡ TimerRecovery
+        → messages_in to_network ≤ late
 
-      heard_less : (back : List Kind) → back ≡ kinds to_user
-          → extra v.station.end (kinds to_user) ≤ extra x.end (kinds to_user)
-          → is_7_or_8 y.end.state ≡ false → extra v.station.end back ≤ flow.b
-      heard_less back is less shut =
-          let same = ap (λ ks. extra v.station.end ks) is in
-          let counts = closed_counts y.end x.end (kinds to_user) (kinds to_network) flow.b shut
-          flow.its in
-          omega (arith, same, less, counts)
+    in_view : (v : View) (quiet : View) → IsInvariant (with_view side.User v w)
+        → IsBeside to_user to_network quiet v → IsMild x quiet → Few quiet
+        → ExpiresBeside most w (with_view side.User v w)
+    in_view v quiet now b k few =
+        let out = kinds v.outgoing in
+        let back = kinds v.incoming in
+        let new = kinds quiet.outgoing in
+        let out_is : out ≡ kinds to_network ++ new =
+        ap kinds b.outgoing_is ∙ kinds_append to_network quiet.outgoing in
+        let back_is : back ≡ kinds to_user = ap kinds b.incoming_is in
+        let its_now : Both (party now.network_base y) (party now.user_base v.station) back out =
+        record { mine = now.both.its; its = now.both.mine } in
+        let mine =
+        load_few v.station y now.user_base now.network_base out back (flow.a + late) now.both
+        (λ shut. let closed = subst (λ e. is_7_or_8 e.state ≡ false) b.end shut in
+        overtakes out new out_is (k.passed y.end (kinds to_network)) (few closed)
+        (k.closes closed)) in
+        let its =
+        load_few y v.station now.network_base now.user_base back out flow.b its_now
+        (λ shut. heard_less back back_is
+        (subst (λ e. extra e (kinds to_user) ≤ extra x.end (kinds to_user)) (sym b.end)
+        (k.heard (kinds to_user))) shut) in
+        let sum = ap (λ ks. weigh ks) out_is ∙ tally_append weight_of (kinds to_network) new in
+        let same : weigh back ≡ weigh (kinds to_user) = ap (λ ks. weigh ks) back_is in
+        let light = k.light in
+        let all = flow.most in
+        let fewer : waiting v.station.end ≤ waiting x.end =
+        subst (λ e. waiting e ≤ waiting x.end) (sym b.end) k.fewer in
+        record {
+          flow = record {
+            a = load v.station.end y.end out;
+            b = load y.end v.station.end back;
+            mine = inl (omega arith);
+            its = inl (omega arith);
+            most = omega (arith, mine, its, sum, same, light, all, fewer);
+          };
+          user_fewer = fewer;
+          network_fewer = omega arith;
+          user_free = λ free. subst IsFree (sym b.end) (k.free free);
+          network_free = λ free. free;
+        }
+      where
+        overtakes : (out new : List Kind) → out ≡ kinds to_network ++ new
+            → extra y.end (kinds to_network ++ new) ≤ extra y.end (kinds to_network)
+            → (x.end.state ≡ TimerRecovery → messages_in to_network ≤ late)
+            → (is_7_or_8 x.end.state ≡ false) ⊎ (x.end.state ≡ TimerRecovery)
+            → extra y.end out ≤ flow.a + late
+        overtakes out new is passed few (inl shut) =
+            let same = ap (λ ks. extra y.end ks) is in
+            let counts = closed_counts x.end y.end (kinds to_network) (kinds to_user) flow.a shut
+            flow.mine in
+            omega (arith, same, passed, counts)
+        overtakes out new is passed few (inr in_8) =
+            let same = ap (λ ks. extra y.end ks) is in
+            let all = extra_few y.end (kinds to_network) in
+            let plain = messages_plain to_network in
+            let at_most = few in_8 in
+            omega (arith, same, passed, all, plain, at_most)
 
-  by_event : (event : PairEvent)
-      → IsBeside to_user to_network (by x event)
-      (left_by (seeing x to_user to_network)
-      (acts Whole side.User event (seeing x to_user to_network)))
-      → IsMild x (by x event) → ExpiresBeside most w (after side.User event w)
-  by_event event b k =
-      let v =
-      left_by (seeing x to_user to_network)
-      (acts Whole side.User event (seeing x to_user to_network)) in
-      let now : IsInvariant (with_view side.User v w) =
-      subst IsInvariant (moved_user event w) (each_move_preserves (user_move event) w i) in
-      subst (λ u. ExpiresBeside most w u) (sym (moved_user event w))
-      (in_view v (by x event) now b k)
+        heard_less : (back : List Kind) → back ≡ kinds to_user
+            → extra v.station.end (kinds to_user) ≤ extra x.end (kinds to_user)
+            → is_7_or_8 y.end.state ≡ false → extra v.station.end back ≤ flow.b
+        heard_less back is less shut =
+            let same = ap (λ ks. extra v.station.end ks) is in
+            let counts = closed_counts y.end x.end (kinds to_user) (kinds to_network) flow.b shut
+            flow.its in
+            omega (arith, same, less, counts)
 
-  user_expires_200 : HasTimersOfState x.end
-      → is_ok (acts Whole side.User Expire200 (seeing x to_user to_network)) ≡ true
-      → ExpiresBeside most w (after side.User Expire200 w)
-  user_expires_200 has ok =
-      by_event Expire200 (t200_beside x to_user to_network ok)
-      (t200_mild x has (t200_runs (seeing x to_user to_network) ok))
+    by_event : (event : PairEvent)
+        → IsBeside to_user to_network (by x event)
+        (left_by (seeing x to_user to_network)
+        (acts Whole side.User event (seeing x to_user to_network)))
+        → IsMild x (by x event) → Few (by x event)
+        → ExpiresBeside most w (after side.User event w)
+    by_event event b k few =
+        let v =
+        left_by (seeing x to_user to_network)
+        (acts Whole side.User event (seeing x to_user to_network)) in
+        let now : IsInvariant (with_view side.User v w) =
+        subst IsInvariant (moved_user event w) (each_move_preserves (user_move event) w i) in
+        subst (λ u. ExpiresBeside most w u) (sym (moved_user event w))
+        (in_view v (by x event) now b k few)
 
-  user_expires_203 : HasTimersOfState x.end
-      → is_ok (acts Whole side.User Expire203 (seeing x to_user to_network)) ≡ true
-      → ExpiresBeside most w (after side.User Expire203 w)
-  user_expires_203 has ok =
-      by_event Expire203 (t203_beside x to_user to_network ok)
-      (t203_mild x has (t203_runs (seeing x to_user to_network) ok))
+    pub user_expires_200 : HasTimersOfState x.end → Few (by x Expire200)
+        → is_ok (acts Whole side.User Expire200 (seeing x to_user to_network)) ≡ true
+        → ExpiresBeside most w (after side.User Expire200 w)
+    user_expires_200 has few ok =
+        by_event Expire200 (t200_beside x to_user to_network ok)
+        (t200_mild x has (t200_runs (seeing x to_user to_network) ok)) few
+
+    pub user_expires_203 : HasTimersOfState x.end → Few (by x Expire203)
+        → is_ok (acts Whole side.User Expire203 (seeing x to_user to_network)) ≡ true
+        → ExpiresBeside most w (after side.User Expire203 w)
+    user_expires_203 has few ok =
+        by_event Expire203 (t203_beside x to_user to_network ok)
+        (t203_mild x has (t203_runs (seeing x to_user to_network) ok)) few
 
 -- ---- Either side.
 
@@ -627,7 +636,7 @@ by_user_200 : (m : ℕ) (x y : Station) (to_user to_network : List Flight)
     (after side.User Expire200 (at x y to_user to_network))
 by_user_200 m x y to_user to_network i have flow ok =
     user_expires_200 m (if_in_8 x.end.state (messages_in to_network)) x y to_user to_network i flow
-    (λ is. in_8_few x.end.state (messages_in to_network) is) have.user ok
+    have.user (λ shut is. in_8_few x.end.state (messages_in to_network) is) ok
 
 by_user_203 : (m : ℕ) (x y : Station) (to_user to_network : List Flight)
     → IsInvariant (at x y to_user to_network) → HaveTimersOfStates (at x y to_user to_network)
@@ -638,9 +647,9 @@ by_user_203 : (m : ℕ) (x y : Station) (to_user to_network : List Flight)
     (at x y to_user to_network)
     (after side.User Expire203 (at x y to_user to_network))
 by_user_203 m x y to_user to_network i have flow ok =
-    user_expires_203 m 0 x y to_user to_network i flow
-    (λ is. let off = (timers_in TimerRecovery x.end have.user is).1 in
-    let on = t203_runs (seeing x to_user to_network) ok in cc) have.user ok
+    user_expires_203 m 0 x y to_user to_network i flow have.user
+    (λ shut is. let off = (timers_in TimerRecovery x.end have.user is).1 in
+    let on = t203_runs (seeing x to_user to_network) ok in cc) ok
 
 module _ (m : ℕ) (x y : Station) (to_user to_network : List Flight)
     (i : IsInvariant (at x y to_user to_network))
@@ -684,3 +693,97 @@ module _ (m : ℕ) (x y : Station) (to_user to_network : List Flight)
   t203_early side.Network ok =
       by_network Expire203 (by_user_203 m y x to_network to_user (exchanged world i) have_swapped
       (flowing_turned flow) (ok_of_side side.Network Expire203 world ok))
+
+-- ---- The end that expires stays in states 7 and 8: it overtakes none.
+
+stays_open : (x : Station) (to_user to_network : List Flight) (event : PairEvent)
+    → IsBeside to_user to_network (by x event)
+    (left_by (seeing x to_user to_network)
+    (acts Whole side.User event (seeing x to_user to_network)))
+    → is_7_or_8 (left_by (seeing x to_user to_network)
+    (acts Whole side.User event (seeing x to_user to_network))).station.end.state ≡ true
+    → is_7_or_8 (by x event).station.end.state ≡ false → ⊥
+stays_open x to_user to_network event b opened shut =
+    let same = ap (λ e. is_7_or_8 e.state) b.end in cc
+
+open_most : (m : ℕ) (w : World) (now : World)
+    → ExpiresBeside (m + 3 * waiting w.user.end + 3 * waiting w.network.end + 6 + 0) w now
+    → ExpiresBeside (m + 3 * waiting w.user.end + 3 * waiting w.network.end + 6) w now
+open_most m w now e =
+    subst (λ n. ExpiresBeside n w now)
+    (let same : m + 3 * waiting w.user.end + 3 * waiting w.network.end + 6 + 0
+    ≡ m + 3 * waiting w.user.end + 3 * waiting w.network.end + 6 = omega arith in same) e
+
+user_open_200 : (m : ℕ) (w : World) → IsInvariant w → HasTimersOfState w.user.end → Flow m w
+    → is_7_or_8 (after side.User Expire200 w).user.end.state ≡ true
+    → is_ok (acts Whole side.User Expire200 (view_of side.User w)) ≡ true
+    → ExpiresBeside (m + 3 * waiting w.user.end + 3 * waiting w.network.end + 6) w
+    (after side.User Expire200 w)
+user_open_200 m w i has flow opened ok =
+    let now : is_7_or_8 (left_by (view_of side.User w)
+    (acts Whole side.User Expire200 (view_of side.User w))).station.end.state ≡ true =
+    subst (λ u. is_7_or_8 u.user.end.state ≡ true) (moved_user Expire200 w) opened in
+    open_most m w (after side.User Expire200 w)
+    (user_expires_200 m 0 w.user w.network w.to_user w.to_network i flow has
+    (λ shut is. absurd (stays_open w.user w.to_user w.to_network Expire200
+    (t200_beside w.user w.to_user w.to_network ok) now shut)) ok)
+
+user_open_203 : (m : ℕ) (w : World) → IsInvariant w → HasTimersOfState w.user.end → Flow m w
+    → is_7_or_8 (after side.User Expire203 w).user.end.state ≡ true
+    → is_ok (acts Whole side.User Expire203 (view_of side.User w)) ≡ true
+    → ExpiresBeside (m + 3 * waiting w.user.end + 3 * waiting w.network.end + 6) w
+    (after side.User Expire203 w)
+user_open_203 m w i has flow opened ok =
+    let now : is_7_or_8 (left_by (view_of side.User w)
+    (acts Whole side.User Expire203 (view_of side.User w))).station.end.state ≡ true =
+    subst (λ u. is_7_or_8 u.user.end.state ≡ true) (moved_user Expire203 w) opened in
+    open_most m w (after side.User Expire203 w)
+    (user_expires_203 m 0 w.user w.network w.to_user w.to_network i flow has
+    (λ shut is. absurd (stays_open w.user w.to_user w.to_network Expire203
+    (t203_beside w.user w.to_user w.to_network ok) now shut)) ok)
+
+open_swapped : (m : ℕ) (event : PairEvent) (w : World)
+    → ExpiresBeside (m + 3 * waiting w.network.end + 3 * waiting w.user.end + 6) (swapped w)
+    (after side.User event (swapped w))
+    → ExpiresBeside (m + 3 * waiting w.user.end + 3 * waiting w.network.end + 6) w
+    (after side.Network event w)
+open_swapped m event w e =
+    let now = after side.User event (swapped w) in
+    let same : m + 3 * waiting w.network.end + 3 * waiting w.user.end + 6
+    ≡ m + 3 * waiting w.user.end + 3 * waiting w.network.end + 6 = omega arith in
+    subst (λ u. ExpiresBeside (m + 3 * waiting w.user.end + 3 * waiting w.network.end + 6) w u)
+    (sym (network_alike Whole event w))
+    (subst (λ n. ExpiresBeside n w (swapped now)) same
+    (expires_swapped (m + 3 * waiting w.network.end + 3 * waiting w.user.end + 6) w now e))
+
+opened_swapped : (event : PairEvent) (w : World)
+    → is_7_or_8 (after side.Network event w).network.end.state ≡ true
+    → is_7_or_8 (after side.User event (swapped w)).user.end.state ≡ true
+opened_swapped event w opened =
+    subst (λ u. is_7_or_8 u.network.end.state ≡ true) (network_alike Whole event w) opened
+
+pub t200_open : (m : ℕ) (s : Side) (w : World) → IsInvariant w → HaveTimersOfStates w → Flow m w
+    → is_7_or_8 (after s Expire200 w).user.end.state ≡ true
+    → is_7_or_8 (after s Expire200 w).network.end.state ≡ true
+    → is_ok (happens Whole (record { side = s; event = Expire200 }) w) ≡ true
+    → ExpiresBeside (m + 3 * waiting w.user.end + 3 * waiting w.network.end + 6) w
+    (after s Expire200 w)
+t200_open m side.User w i have flow user network ok =
+    user_open_200 m w i have.user flow user (ok_of_side side.User Expire200 w ok)
+t200_open m side.Network w i have flow user network ok =
+    open_swapped m Expire200 w (user_open_200 m (swapped w) (exchanged w i) have.network
+    (flowing_turned flow) (opened_swapped Expire200 w network)
+    (ok_of_side side.Network Expire200 w ok))
+
+pub t203_open : (m : ℕ) (s : Side) (w : World) → IsInvariant w → HaveTimersOfStates w → Flow m w
+    → is_7_or_8 (after s Expire203 w).user.end.state ≡ true
+    → is_7_or_8 (after s Expire203 w).network.end.state ≡ true
+    → is_ok (happens Whole (record { side = s; event = Expire203 }) w) ≡ true
+    → ExpiresBeside (m + 3 * waiting w.user.end + 3 * waiting w.network.end + 6) w
+    (after s Expire203 w)
+t203_open m side.User w i have flow user network ok =
+    user_open_203 m w i have.user flow user (ok_of_side side.User Expire203 w ok)
+t203_open m side.Network w i have flow user network ok =
+    open_swapped m Expire203 w (user_open_203 m (swapped w) (exchanged w i) have.network
+    (flowing_turned flow) (opened_swapped Expire203 w network)
+    (ok_of_side side.Network Expire203 w ok))

@@ -1,15 +1,15 @@
 -- Few losses: both ends are in state 7 or 8, and fewer frames are lost than each end may still
 -- retransmit.
-use Rattle.std.specs.Prelude.{◌≡◌, ℕ, ◌+◌, ◌*◌, ◌<◌, ◌≤◌, true, List, length}
+use Rattle.std.specs.Prelude.{◌≡◌, ℕ, ◌+◌, ◌*◌, ◌<◌, ◌≤◌, Bool, true, false, List, [], ◌∷◌, length}
 use Rattle.lapd_mod128.specs.Counting.{Reading}
 use Rattle.lapd_link_definition.specs.declared.state.State.TheVariants.{TimerRecovery}
 use Rattle.lapd_link_definition.specs.EndOfStep.{is_7_or_8}
 use Rattle.lapd_link_definition.specs.End.{End}
-use Rattle.lapd_pair_laws.specs.Move.{Move}
+use Rattle.lapd_pair_laws.specs.Move.{PairEvent, Expire200, Expire203, Move}
 use Rattle.lapd_pair_laws.specs.World.{World, run, left}
-use Rattle.lapd_recovery_laws.specs.Deliveries.{frames}
+use Rattle.lapd_recovery_laws.specs.Deliveries.{frames, most_deliveries}
 use Rattle.lapd_recovery_laws.specs.EarlyTimers.{AreLineMoves}
-use Rattle.lapd_recovery_laws.specs.Losses.{AreOwnOrLosses, losses}
+use Rattle.lapd_recovery_laws.specs.Losses.{AreOwnOrLosses, one_if, losses}
 use Rattle.lapd_recovery_laws.specs.OpenLine.{IsUp}
 use Rattle.lapd_recovery_laws.specs.Own.{Rests, IsFree}
 
@@ -36,11 +36,46 @@ pub record StaysOpen (w now : World) : Type 0 where
 abbrev pub most_open_moves : ℕ → World → ℕ
 most_open_moves lost w = 2 * frames w + 3 * left w + 12 + lost * (4 * left w + 15)
 
--- From this world own moves and losses, in any order, are few. After deliveries, losses and expired
--- timers, in any order, both ends are in states 7 and 8, and no message was dropped. When no own
--- move is possible any more, the link is up.
+-- how often T200 expires in these moves, and T203
+abbrev pub is_t200 : PairEvent → Bool
+is_t200 Expire200 = true
+is_t200 event = false
+
+abbrev pub t200s : List Move → ℕ
+t200s [] = 0
+t200s (move ∷ moves) = one_if (is_t200 move.event) + t200s moves
+
+abbrev pub is_t203 : PairEvent → Bool
+is_t203 Expire203 = true
+is_t203 event = false
+
+abbrev pub t203s : List Move → ℕ
+t203s [] = 0
+t203s (move ∷ moves) = one_if (is_t203 move.event) + t203s moves
+
+-- At most this often T200 expires if at most `lost` frames are lost: twice for each message left,
+-- and once more at each end; as often again for each lost frame; and once for each frame in transit
+-- at the start, since an RNR starts T200.
+abbrev pub most_t200s : ℕ → World → ℕ
+most_t200s lost w = (2 * left w + 2) * (lost + 1) + frames w
+
+-- The number of moves that suffices if T203 expires `idle` times: those by which the line runs
+-- empty, for each lost frame one for each message left, and for each timer as many as empty the line
+-- again.
+abbrev pub most_open_line_moves : ℕ → ℕ → World → ℕ
+most_open_line_moves lost idle w =
+    most_deliveries w + lost * (left w + 1) + (most_t200s lost w + idle) * (3 * left w + 7)
+
+-- From this world deliveries, losses and expired timers, in any order, are few, if few frames are
+-- lost and T203 expires seldom, and T200 does not expire often. Own moves and losses are fewer. Both
+-- ends stay in states 7 and 8, and no message is dropped. When no own move is possible any more,
+-- the link is up.
 pub record KeepsAll (r : Reading) (lost : ℕ) (w : World) : Type 0 where
-  pub few : (moves : List Move) → AreOwnOrLosses r moves w → losses moves ≤ lost
+  pub few_t200s : (moves : List Move) → AreLineMoves r moves w → losses moves ≤ lost
+      → t200s moves ≤ most_t200s lost w
+  pub few : (moves : List Move) → AreLineMoves r moves w → losses moves ≤ lost
+      → length moves ≤ most_open_line_moves lost (t203s moves) w
+  pub own_few : (moves : List Move) → AreOwnOrLosses r moves w → losses moves ≤ lost
       → length moves ≤ most_open_moves lost w
   pub stays : (moves : List Move) → AreLineMoves r moves w → losses moves ≤ lost
       → StaysOpen w (run r moves w)

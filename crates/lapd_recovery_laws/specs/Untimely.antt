@@ -1,12 +1,13 @@
 -- Worlds that try early timers.
 use Rattle.std.specs.Prelude.{ℕ, true, List, [], ◌∷◌, ◌++◌, length}
 use Rattle.lapd_mod128.specs.Counting.{Reading}
-use Rattle.lapd_pair_laws.specs.Move.{Move, Give, Deliver, Lose, Expire200}
+use Rattle.lapd_pair_laws.specs.Move.{Move, Give, Deliver, Lose, Expire200, Expire203}
 use Rattle.lapd_pair_laws.specs.Schedule.{of_user, of_network, establishing}
 use Rattle.lapd_pair_laws.specs.World.{World, run}
 use Rattle.lapd_recovery_laws.specs.EarlyTimers.{earlies, overtaken, most_line_moves}
+use Rattle.lapd_recovery_laws.specs.FewLosses.{most_open_line_moves}
 use Rattle.lapd_recovery_laws.specs.Losses.{losses}
-use Rattle.lapd_recovery_laws.specs.Recovered.{RecoveryOutcome, looked_at, too_many_t203}
+use Rattle.lapd_recovery_laws.specs.Recovered.{RecoveryOutcome, looked_at, repeated, too_many_t203}
 
 -- how many frames these moves lose, how many timers expire early, and how many messages T200
 -- overtakes
@@ -42,3 +43,23 @@ message_sent = establishing ++ of_user (Give (1 ∷ [])) ∷ []
 abbrev pub t200_overtakes : List Move
 t200_overtakes = of_user Expire200 ∷ of_network (Lose 1) ∷ of_user Expire200
     ∷ of_network Deliver ∷ of_network Deliver ∷ of_user Deliver ∷ of_user Deliver ∷ []
+
+-- ---- Both ends in states 7 and 8.
+
+-- the bound is that of few losses, and T203 expires this often
+abbrev pub outcome_of_open : Reading → ℕ → List Move → World → RecoveryOutcome
+outcome_of_open r idle moves w =
+    looked_at r (length moves) (most_open_line_moves (losses moves) idle w) (run r moves w)
+
+-- eight messages are submitted, and the first is in transit
+abbrev pub eight_given : List Move
+eight_given = establishing ++ repeated 8 (of_user (Give (1 ∷ [])) ∷ [])
+
+-- T200 of the user expires beside each message in transit
+abbrev pub t200_beside_each : List Move
+t200_beside_each = repeated 8 (of_user Expire200 ∷ of_network Deliver ∷ of_network Deliver
+    ∷ of_user Deliver ∷ of_user Deliver ∷ [])
+
+-- T203 of the user expires seven times, and each poll is answered
+abbrev pub seven_idle_polls : List Move
+seven_idle_polls = repeated 7 (of_user Expire203 ∷ of_network Deliver ∷ of_user Deliver ∷ [])

@@ -14,7 +14,7 @@ ghost use Rattle.lapd_recovery_laws.specs.Agreed.{ComesBack};
 ghost use Rattle.lapd_recovery_laws.specs.EveryWorld.{IsFreeWorld, WorldComesBack};
 ghost use Rattle.lapd_recovery_laws.specs.Deliveries.{RunsEmpty};
 ghost use Rattle.lapd_recovery_laws.specs.EarlyTimers.{ComesBackDespiteTimers};
-ghost use Rattle.lapd_recovery_laws.specs.FewLosses.{OutlastLosses, KeepsAll};
+ghost use Rattle.lapd_recovery_laws.specs.FewLosses.{t200s, most_t200s, OutlastLosses, KeepsAll};
 ghost use Rattle.lapd_recovery_laws.specs.KeptAgreement.{AreOwnOr203, KeepsAgreement};
 ghost use Rattle.lapd_recovery_laws.specs.LoneLine.{IsLoneLine, ComesUpAnew};
 ghost use Rattle.lapd_recovery_laws.specs.Losses.{ComesBackDespite, AreOwnOrLosses};
@@ -22,7 +22,7 @@ ghost use Rattle.lapd_recovery_laws.specs.OpenLine.{IsOpenLine, ComesUp};
 ghost use Rattle.lapd_recovery_laws.specs.Recovered.{outcome_of, outcome_of_deliveries, outcome_from, first_of_three_lost, poll_meets_sabme, both_sabmes_lost, network_restarts, restarts_with_one_sent, release_waits, sabmes_lost, disc_lost, release_unheard, disc_meets_sabme, dm_sent, longest, both_in_7, both_in_4, held_up, IsBusy, message_lost, three_polls_lost, two_polls_lost, outcome_despite, outcome_of_few, polls_cross, polled_on, all_due, agreed_after, least_pair, all_admitted, outcome_of_least, eight_wait, t200_beside_frames, too_many_t200, network_sabme_lost, t203_before_t200, too_many_t203};
 ghost use Rattle.lapd_recovery_laws.specs.ReleasedLine.{IsReleasedLine, ComesDown};
 ghost use Rattle.lapd_recovery_laws.specs.Timers.{HaveTimersOfStates};
-ghost use Rattle.lapd_recovery_laws.specs.Untimely.{untimely, outcome_of_line, t203_counted, message_sent, t200_overtakes};
+ghost use Rattle.lapd_recovery_laws.specs.Untimely.{untimely, outcome_of_line, t203_counted, message_sent, t200_overtakes, outcome_of_open, eight_given, t200_beside_each, seven_idle_polls};
 ghost use Rattle.lapd_recovery_laws.specs.WantedLine.{AreWanting, IsWanted};
 
 /// Worked worlds recover as expected, on whole numbers and on tags, with either `Recovery`: the
@@ -284,7 +284,10 @@ pub fn every_world_comes_back_despite_early_timers()
 /// Runs with early timers are bounded as expected, on whole numbers and on tags. The first two pass
 /// the bound of own moves, and keep the one that counts early timers: T200 expires beside messages
 /// in transit, nine times; and T203 expires before T200 of the peer, four times. In the third a poll
-/// is lost, and T200 expires in state 8 while the message before the poll is still in transit.
+/// is lost, and T200 expires in state 8 while the message before the poll is still in transit. In the
+/// last two both ends are in states 7 and 8. T200 expires beside each of eight messages in transit,
+/// within the bound of few losses, which counts no T200; and T203 expires seven times with nothing to
+/// do, which passes that bound unless it counts them.
 pub fn early_timers_are_computed()
     ensures t200_counts { (r : Reading)
         → (untimely r t200_beside_frames (run r eight_wait least_pair)
@@ -302,16 +305,33 @@ pub fn early_timers_are_computed()
         ≡ record { lost = 1; early = 2; late = 1 })
         × (outcome_of_line r t200_overtakes (run r message_sent least_pair)
         ≡ both_in_7 7 1 1) }
+    ensures t200_beside_each { (r : Reading)
+        → OutlastLosses 0 (run r eight_given least_pair)
+        × (all_admitted r t200_beside_each (run r eight_given least_pair) ≡ true)
+        × (t200s t200_beside_each ≡ 8)
+        × (most_t200s 0 (run r eight_given least_pair) ≡ 19)
+        × (outcome_of_open r 0 t200_beside_each (run r eight_given least_pair)
+        ≡ both_in_7 40 8 0) }
+    ensures idle_polls { (r : Reading)
+        → OutlastLosses 0 (run r establishing least_pair)
+        × (all_admitted r seven_idle_polls (run r establishing least_pair) ≡ true)
+        × (outcome_of_open r 0 seven_idle_polls (run r establishing least_pair) ≡ agreed_after 21)
+        × (outcome_of_open r 7 seven_idle_polls (run r establishing least_pair)
+        ≡ both_in_7 21 0 0) }
 {}
 
-/// Few losses drop no message, whenever timers expire. Suppose that both ends are in state 7 or 8 and
-/// neither is own receiver busy, with frames in transit or not. Fewer frames are lost than each end
-/// retransmits at most, and in state 8 fewer than its retransmissions that are left. T200 expires
-/// wherever it runs, but not while a command with P=1 of its end, or the response to it, is in
-/// transit; and T203 wherever it runs. Then, after deliveries, losses and expired timers in any
-/// order, both ends are in state 7 or 8, and no message was dropped. When no own move is possible any
-/// more, both ends are in state 7 with equal numbers, and each message that was not dropped before
-/// was received and acknowledged. If timers expire as in [`every_world_comes_back`], the moves are at
+/// Few losses drop no message, and T200 expires seldom, beside frames in transit or not. Suppose that
+/// both ends are in state 7 or 8 and neither is own receiver busy, with frames in transit or not.
+/// Fewer frames are lost than each end retransmits at most, and in state 8 fewer than its
+/// retransmissions that are left. T200 may expire wherever it runs, but not while a command with P=1
+/// of its end, or the response to it, is in transit; and T203 wherever it runs. Then, after
+/// deliveries, losses and expired timers in any order, both ends are in state 7 or 8, and no message
+/// was dropped. T200 expires at most two times per message left, and two more, as often again for
+/// each frame that may be lost, and once per frame in transit. The moves are at most two per frame in
+/// transit, three per message left, and four more; one per message left, and one more, for each frame
+/// that may be lost; and three per message left, and seven more, for each T200 of these and each
+/// T203. When no own move is possible any more, both ends are in state 7 with equal numbers, and each
+/// message that was not dropped before was received and acknowledged. Own moves and losses are at
 /// most two per frame in transit, three per message left, and 12 more, and for each frame that may be
 /// lost, four per message left and 15 more, whatever N200 is. The run starts in a new world, on whole
 /// numbers or on tags, with windows of 1 to 127 and either `Recovery`.
