@@ -33,8 +33,8 @@ use Rattle.lapd_pair_laws.proofs.TaggedMoves.{left_on_tags}
 use Rattle.lapd_pair_laws.proofs.Whole.{each_move_preserves, each_run_preserves}
 use Rattle.lapd_pair_laws.proofs.Worlds.{new_holds}
 use Rattle.lapd_pair_laws.proofs.DrainsAfterRuns.{unmapped}
-use Rattle.lapd_recovery_laws.specs.AfterOutage.{IsAfterOutage, IsKept, StaysUp}
-use Rattle.lapd_recovery_laws.specs.Agreed.{AreLevel, AreAgreed, ComesBack}
+use Rattle.lapd_recovery_laws.specs.AfterOutage.{IsAfterOutage, IsKept}
+use Rattle.lapd_recovery_laws.specs.Agreed.{AreAgreed, ComesBack}
 use Rattle.lapd_recovery_laws.specs.Own.{IsOwn, AreOwn, Rests, IsFree, most_own_moves}
 use Rattle.lapd_recovery_laws.specs.Timers.{HaveTimersOfStates}
 use Rattle.lapd_recovery_laws.specs.WantedLine.{IsWanting, AreWanting}
@@ -46,7 +46,7 @@ use Rattle.lapd_recovery_laws.proofs.LostMoves.{moved_user, moved_network}
 use Rattle.lapd_recovery_laws.proofs.OpenLine.{tries_so, draining_begins, up_so}
 use Rattle.lapd_recovery_laws.proofs.Outage.{coming_moves}
 use Rattle.lapd_recovery_laws.proofs.OutageWorlds.{Facts}
-use Rattle.lapd_recovery_laws.proofs.OwnOnTags.{are_own_by_tags, rests_by_tags, ran_on_tags, are_level_on_tags, agreed_on_tags}
+use Rattle.lapd_recovery_laws.proofs.OwnOnTags.{are_own_by_tags, rests_by_tags, ran_on_tags, agreed_on_tags}
 use Rattle.lapd_recovery_laws.proofs.Releases.{empty_in_4}
 use Rattle.lapd_recovery_laws.proofs.Situations.{tries, attempt_in, attempt, gone_in, gone, again_in, again, finds_in, finds, polls_in, polls, MayTry, Establishing, Closed, Half, alone_4, alone_5, alone_6, asks_5, asks_6, accepted, crossed, refused, parting, closed, not_both, false_if, Coming}
 use Rattle.lapd_recovery_laws.proofs.TimersOfRuns.{new_has_timers, timers_after_move, timers_after_run}
@@ -684,46 +684,6 @@ every_line_comes_back r n200 some user network u n us ns moves a =
     comes_back_by n200 some user network u n us ns moves r a
 
 -- ---- A link that one end wants and nobody releases comes up.
-
--- no own move is possible where an establishment is under way
-not_establishing : (w : World) → HaveTimersOfStates w → IsStill w
-    → Establishing w.user.end w.network.end → ⊥
-not_establishing w have still k = by_either k.either
-  where
-    off_in_5 : (e : End) → HasTimersOfState e → e.t200 ≡ false → MayTry e → ⊥
-    off_in_5 e has off may = let on = (timers_in AwaitingEstablishment e has may.0).0 in cc
-
-    by_either : MayTry w.user.end ⊎ MayTry w.network.end → ⊥
-    by_either (inl may) = off_in_5 w.user.end have.user still.user may
-    by_either (inr may) = off_in_5 w.network.end have.network still.network may
-
-pub level_at_rest : (N n : ℕ) (w : World) → Coming N true n w → Facts N w
-    → IsConsistentWorld Whole w → IsStill w → Rests Whole w → AreLevel w.user.end w.network.end
-level_at_rest N n w (inl d) f preserved still rests = (up_so n
-    w w.user w.network w.to_user w.to_network preserved (rests_drained true n w d f.have still)
-    still (record { user = refl; network = refl })).level
-level_at_rest N n w (inr (inl l)) f _ still rests =
-    let s = half_rests true N n w l f.have still (λ own. rests (user_move Expire203) own) in
-    absurd (not_establishing w f.have still (s.1 refl))
-level_at_rest N n w (inr (inr l)) f _ still rests =
-    let s =
-    half_rests true N n (swapped w) l
-    (record { user = f.have.network; network = f.have.user }) (still_swapped w still)
-    (λ own. rests (network_move Expire203) (own_203_swapped w own)) in
-    absurd (not_establishing (swapped w) (record { user = f.have.network; network = f.have.user })
-    (still_swapped w still) (s.1 refl))
-
-pub stays_up_on_tags : (w : World) → IsInvariant w → IsConsistentWorld Whole w → StaysUp Whole w
-    → StaysUp Tagged (tag_world w)
-stays_up_on_tags w i preserved up moves own rests =
-    let now = run Whole moves w in
-    let same : run Tagged moves (tag_world w) ≡ tag_world now = ran_on_tags moves w i preserved in
-    let still : Rests Whole now =
-    rests_by_tags now (each_run_preserves moves w i)
-    (run_consistent Whole moves w preserved) (subst (λ v. Rests Tagged v) same rests) in
-    subst (λ (v : World). AreLevel v.user.end v.network.end) (sym same)
-    (are_level_on_tags now.user.end now.network.end
-    (up moves (are_own_by_tags moves w i preserved own) still))
 
 kept_by_tags : (e : End) → IsKept (tag_end e) → IsKept e
 kept_by_tags e k = record { not_releasing = k.not_releasing; none_pending = k.none_pending }

@@ -56,6 +56,7 @@ pub mod StaysOpen
 pub mod TimersBeside
 pub mod TimersExpire
 pub mod TimersOfRuns
+pub mod TimersWanted
 pub mod Transitions
 pub mod UnreadNumbers
 pub mod Wanted

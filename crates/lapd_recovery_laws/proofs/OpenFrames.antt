@@ -126,6 +126,19 @@ requested (Dm true) Answer info place = inr (inr refl)
 requested control Command info place = inr (inr refl)
 requested control Answer info place = inr (inr refl)
 
+no_request : (control : Control) (role : Role) (info : List ℕ) (place : ℕ)
+    → is_ignored control ≡ true → ask_of (kind_of role control info place) ≡ 0
+no_request control role info place ignored = by_request (requested control role info place)
+  where
+    by_request : IsSabme control role
+        ⊎ (IsDisc control role ⊎ (ask_of (kind_of role control info place) ≡ 0))
+        → ask_of (kind_of role control info place) ≡ 0
+    by_request (inl is) =
+        absurd (let impossible : is_ignored control ≡ false = ap is_ignored is.0 in cc)
+    by_request (inr (inl is)) =
+        absurd (let impossible : is_ignored control ≡ false = ap is_ignored is.0 in cc)
+    by_request (inr (inr none)) = none
+
 -- DM frames
 abbrev pub refuse_of : Kind → ℕ
 refuse_of Refuses = 1
@@ -192,14 +205,17 @@ module _ (station peer : Station) (frame : Flight) (rest outgoing : List Flight)
         Stays e station.history.dropped k outgoing (end_step Whole t).end
         (story c (end_step Whole t)).history.dropped (story c (end_step Whole t)).line
 
-    -- no DM is sent
-    abbrev Unrefused : StepState → Type 0
-    Unrefused t = tally refuse_of (kinds (story c t).line) ≡ tally refuse_of out
+    -- no DM is sent, and a SABME or DISC is answered
+    abbrev Unrefused : Kind → StepState → Type 0
+    Unrefused k t =
+        (tally refuse_of (kinds (story c t).line) ≡ tally refuse_of out)
+        × (ask_of k + tally answer_of out ≤ tally answer_of (kinds (story c t).line))
+        × (tally ask_of out ≤ tally ask_of (kinds (story c t).line))
 
     abbrev Done : Kind → StepState → Type 0
     Done k t =
         Delivered e peer.end k ks outgoing (end_step Whole t).end (story c (end_step Whole t)).line
-        × ((ask_of k ≡ 0 → Open k t × Turns c k ks s t) × Unrefused (end_step Whole t))
+        × ((ask_of k ≡ 0 → Open k t × Turns c k ks s t) × Unrefused k (end_step Whole t))
 
     abbrev Arriving : Kind → Type 0
     Arriving k = HoldsMid c (k ∷ ks) s
@@ -256,9 +272,10 @@ module _ (station peer : Station) (frame : Flight) (rest outgoing : List Flight)
           polls = omega (arith, p);
         }
 
-    unrefused : (t : StepState) (frames : List Flight) → (story c t).line ≡ outgoing ++ frames
-        → tally refuse_of (kinds frames) ≡ 0 → Unrefused (end_step Whole t)
-    unrefused t frames sent none =
+    unrefused : (k : Kind) (t : StepState) (frames : List Flight)
+        → (story c t).line ≡ outgoing ++ frames → tally refuse_of (kinds frames) ≡ 0
+        → ask_of k ≤ tally answer_of (kinds frames) → Unrefused k (end_step Whole t)
+    unrefused k t frames sent none answers =
         let cl = end_closes c t in
         let line : (story c (end_step Whole t)).line ≡ outgoing ++ (frames ++ cl.frames) =
         cl.line ∙ ap (λ l. l ++ cl.frames) sent ∙ append_assoc outgoing frames cl.frames in
@@ -267,31 +284,38 @@ module _ (station peer : Station) (frame : Flight) (rest outgoing : List Flight)
         line in
         let few = refused_few (kinds cl.frames) in
         let nothing = cl.no_answer in
-        omega (arith, all, none, few, nothing)
+        let answered =
+        tally_line answer_of (story c (end_step Whole t)).line outgoing frames cl.frames line in
+        let asked =
+        tally_line ask_of (story c (end_step Whole t)).line outgoing frames cl.frames line in
+        (omega (arith, all, none, few, nothing), omega (arith, answered, answers), omega (arith, asked))
 
-    answer_unrefused : (k : Kind) (t : StepState) → Replies c k s t → Unrefused (end_step Whole t)
+    answer_unrefused : (k : Kind) (t : StepState) → ask_of k ≡ 0 → Replies c k s t
+        → Unrefused k (end_step Whole t)
     unfolding begin story_after
-    answer_unrefused k t r =
-        unrefused t r.frames r.line
+    answer_unrefused k t no_ask r =
+        unrefused k t r.frames r.line
         (let few = refused_few (kinds r.frames) in
-        let none = r.no_answer in omega (arith, few, none))
+        let none = r.no_answer in omega (arith, few, none)) (omega (arith, no_ask))
 
-    back_unrefused : (k : Kind) (t : StepState) → Backs c k ks s t → Unrefused (end_step Whole t)
+    back_unrefused : (k : Kind) (t : StepState) → ask_of k ≡ 0 → Backs c k ks s t
+        → Unrefused k (end_step Whole t)
     unfolding begin story_after
-    back_unrefused k t b = unrefused t [] (b.line ∙ sym (append-nil outgoing)) refl
+    back_unrefused k t no_ask b =
+        unrefused k t [] (b.line ∙ sym (append-nil outgoing)) refl (omega (arith, no_ask))
 
-    by_turn : (k : Kind) (t : StepState) → Turns c k ks s t → Done k t
+    by_turn : (k : Kind) (t : StepState) → ask_of k ≡ 0 → Turns c k ks s t → Done k t
     unfolding begin story_after
-    by_turn k t (inl r) = (
+    by_turn k t no_ask (inl r) = (
       by_answer e
           (end_step Whole t).end peer.end k ks outgoing (story c (end_step Whole t)).line opened
           (answered_so c k s t outgoing refl r),
-      (λ _. (open_answer k t r, inl r), answer_unrefused k t r),
+      (λ _. (open_answer k t r, inl r), answer_unrefused k t no_ask r),
     )
-    by_turn k t (inr b) = (
+    by_turn k t no_ask (inr b) = (
       by_back c peer.end k ks s t outgoing refl opened b b.arrives b.awaited
           (ap pending_in none_pending) (λ p. b.unwanted p.in_7 p.wanted),
-      (λ _. (open_back k t b, inr b), back_unrefused k t b),
+      (λ _. (open_back k t b, inr b), back_unrefused k t no_ask b),
     )
 
     queue : unsent e ≤ waiting e
@@ -425,7 +449,10 @@ module _ (station peer : Station) (frame : Flight) (rest outgoing : List Flight)
               fewer = omega (arith, given, first, all, few, q);
               free = λ was o. ap (λ (v : Unsending). v.own_busy) cl.same ∙ r.idle;
             },
-            (λ asked. cc, unrefused t (without_info Answer (Ua true) ∷ []) r.sent refl),
+            (
+              λ asked. cc,
+              unrefused Asks t (without_info Answer (Ua true) ∷ []) r.sent refl (omega arith),
+            ),
           )
 
       abbrev reset : StepState → StepState
@@ -497,8 +524,9 @@ module _ (station peer : Station) (frame : Flight) (rest outgoing : List Flight)
                 }),
             (
               λ asked. cc,
-              unrefused t (without_info Answer (Ua true) ∷ [])
-                  (released_line (nat_lt 0 (waiting e)) e.t200 e.t203 (waiting e) _ _) refl,
+              unrefused Asks t (without_info Answer (Ua true) ∷ [])
+                  (released_line (nat_lt 0 (waiting e)) e.t200 e.t203 (waiting e) _ _) refl
+                  (omega arith),
             ),
           )
 
@@ -527,7 +555,7 @@ module _ (station peer : Station) (frame : Flight) (rest outgoing : List Flight)
 
     by_unit : Done Unnumbered (put UnitUp s)
     by_unit =
-        by_turn Unnumbered (put UnitUp s)
+        by_turn Unnumbered (put UnitUp s) refl
         (inl (passes Unnumbered refl refl refl none_now (omega arith) unit_keeps))
 
     -- ---- All frames.
@@ -563,14 +591,18 @@ module _ (station peer : Station) (frame : Flight) (rest outgoing : List Flight)
         → Done (Frame control role) (multiple_frame_established Whole (Heard control role) s)
     unfolding multiple_frame_established
     in_state_7 (I ns nr p) Command is no_unit m =
-        by_turn (Frame (I ns nr p) Command) _ (i_in_7 c ks s none_now ns nr p m)
+        by_turn (Frame (I ns nr p) Command) _ (no_request (I ns nr p) Command frame.info frame.place refl)
+        (i_in_7 c ks s none_now ns nr p m)
     in_state_7 (I ns nr p) Answer is no_unit m = absurd (no_foreign c ks s m)
     in_state_7 (Rr nr pf) role is no_unit m =
-        by_turn (Frame (Rr nr pf) role) _ (rr_in_7 c ks s none_now role nr pf (same_state is) m)
+        by_turn (Frame (Rr nr pf) role) _ (no_request (Rr nr pf) role frame.info frame.place refl)
+        (rr_in_7 c ks s none_now role nr pf (same_state is) m)
     in_state_7 (Rnr nr pf) role is no_unit m =
-        by_turn (Frame (Rnr nr pf) role) _ (rnr_in_7 c ks s none_now role nr pf (same_state is) m)
+        by_turn (Frame (Rnr nr pf) role) _ (no_request (Rnr nr pf) role frame.info frame.place refl)
+        (rnr_in_7 c ks s none_now role nr pf (same_state is) m)
     in_state_7 (Rej nr pf) role is no_unit m =
-        by_turn (Frame (Rej nr pf) role) _ (rej_in_7 c ks s none_now role nr pf (same_state is) m)
+        by_turn (Frame (Rej nr pf) role) _ (no_request (Rej nr pf) role frame.info frame.place refl)
+        (rej_in_7 c ks s none_now role nr pf (same_state is) m)
     in_state_7 (Dm true) Answer is no_unit m = absurd (no_reply Refuses refl m)
     in_state_7 (Dm false) Answer is no_unit m = absurd (no_foreign c ks s m)
     in_state_7 control role is no_unit m = in_both control role refl no_unit m
@@ -580,14 +612,18 @@ module _ (station peer : Station) (frame : Flight) (rest outgoing : List Flight)
         → Done (Frame control role) (timer_recovery Whole (Heard control role) s)
     unfolding timer_recovery
     in_state_8 (I ns nr p) Command is no_unit m =
-        by_turn (Frame (I ns nr p) Command) _ (i_in_8 c ks s none_now ns nr p m)
+        by_turn (Frame (I ns nr p) Command) _ (no_request (I ns nr p) Command frame.info frame.place refl)
+        (i_in_8 c ks s none_now ns nr p m)
     in_state_8 (I ns nr p) Answer is no_unit m = absurd (no_foreign c ks s m)
     in_state_8 (Rr nr pf) role is no_unit m =
-        by_turn (Frame (Rr nr pf) role) _ (rr_in_8 c ks s none_now role nr pf (same_state is) m)
+        by_turn (Frame (Rr nr pf) role) _ (no_request (Rr nr pf) role frame.info frame.place refl)
+        (rr_in_8 c ks s none_now role nr pf (same_state is) m)
     in_state_8 (Rnr nr pf) role is no_unit m =
-        by_turn (Frame (Rnr nr pf) role) _ (rnr_in_8 c ks s none_now role nr pf (same_state is) m)
+        by_turn (Frame (Rnr nr pf) role) _ (no_request (Rnr nr pf) role frame.info frame.place refl)
+        (rnr_in_8 c ks s none_now role nr pf (same_state is) m)
     in_state_8 (Rej nr pf) role is no_unit m =
-        by_turn (Frame (Rej nr pf) role) _ (rej_in_8 c ks s none_now role nr pf (same_state is) m)
+        by_turn (Frame (Rej nr pf) role) _ (no_request (Rej nr pf) role frame.info frame.place refl)
+        (rej_in_8 c ks s none_now role nr pf (same_state is) m)
     in_state_8 (Dm true) Answer is no_unit m = absurd (no_reply Refuses refl m)
     in_state_8 (Dm false) Answer is no_unit m = absurd (no_foreign c ks s m)
     in_state_8 control role is no_unit m = in_both control role refl no_unit m

@@ -15,7 +15,7 @@ use Rattle.lapd_link_definition.specs.RunningTimers.{HasTimersOfState}
 use Rattle.lapd_link_definition.specs.Table.{step}
 use Rattle.lapd_pair_laws.specs.Conjuncts.{most_asks}
 use Rattle.lapd_pair_laws.specs.Invariant.{IsInvariant}
-use Rattle.lapd_pair_laws.specs.Kinds.{Kind, Numbered, Final, kind, kinds, tally, ask_of, poll_of, final_of, bit}
+use Rattle.lapd_pair_laws.specs.Kinds.{Kind, Numbered, Final, kind, kinds, tally, ask_of, answer_of, poll_of, final_of, bit}
 use Rattle.lapd_pair_laws.specs.Line.{Flight, without_lost, first_poll, first_final}
 use Rattle.lapd_pair_laws.specs.Move.{PairEvent, Deliver, Lose, Expire200, Expire203, NotRunning, Move, Station, View, ViewStep, Refusal, acts, takes, expires_200, unless_under_way, delivers, receives, view_after}
 use Rattle.lapd_pair_laws.specs.Timed.{IsSettledEnd}
@@ -182,9 +182,13 @@ deliver N b side.Network x y to_user (frame ∷ rest) f l ok =
 pub less : (a b : ℕ) → a + 1 ≤ b → nat_lt a b ≡ true
 less a b le = grind (arith, nat_tests, le)
 
--- T200 waits for its poll, and for the final
-pub awaits_none : (v : View) → is_ok (acts Whole side.User Expire200 v) ≡ true
-    → (tally poll_of (kinds v.outgoing) ≡ 0) × (tally final_of (kinds v.incoming) ≡ 0)
+-- T200 waits for its poll and the final, and for its SABME or DISC and the response
+abbrev AwaitsNone : View → Type 0
+AwaitsNone v =
+    (tally poll_of (kinds v.outgoing) ≡ 0) × (tally final_of (kinds v.incoming) ≡ 0)
+    × (tally ask_of (kinds v.outgoing) ≡ 0) × (tally answer_of (kinds v.incoming) ≡ 0)
+
+pub awaits_none : (v : View) → is_ok (acts Whole side.User Expire200 v) ≡ true → AwaitsNone v
 unfolding acts expires_200
 awaits_none v ok =
     by_tests v.station.end.t200 (first_poll v.outgoing) (first_final v.incoming) refl refl
@@ -193,9 +197,11 @@ awaits_none v ok =
     by_tests : (on : Bool) (poll final : Option ℕ) → first_poll v.outgoing ≡ poll
         → first_final v.incoming ≡ final → (taken : Result ViewStep Refusal)
         → is_ok (if on then unless_under_way side.User poll final taken else Err NotRunning) ≡ true
-        → (tally poll_of (kinds v.outgoing) ≡ 0) × (tally final_of (kinds v.incoming) ≡ 0)
+        → AwaitsNone v
     by_tests true None None poll final taken ok =
-        ((none_under_way v.outgoing poll).0, (none_answered v.incoming final).0)
+        let out = none_under_way v.outgoing poll in
+        let back = none_answered v.incoming final in
+        (out.0, back.0, out.1, back.1)
     by_tests true None (Some at) poll final taken ok = cc
     by_tests true (Some at) other poll final taken ok = cc
     by_tests false one other poll final taken ok = cc

@@ -1,109 +1,107 @@
 -- A link that one end wants and neither releases comes up, from every world that a run leads to.
-use Rattle.std.proofs.Common.{◌≡◌, ◌⊎◌, inl, inr, ℕ, ◌-◌, ◌≤◌, true, List, [], ◌∷◌, length, map, is_ok, refl, sym, subst, ◌∙◌}
+use Rattle.std.proofs.Common.{◌≡◌, ◌⊎◌, inl, inr, ℕ, ◌+◌, ◌≤◌, true, false, List, [], ◌∷◌, map, refl, sym, ap, subst, ◌∙◌, arith}
 use Rattle.lapd_frame.specs.declared.Side.{Side}
 use Rattle.lapd_frame.specs.declared.Control.{Control}
 use Rattle.lapd_frame.specs.declared.Control.TheVariants.{I, Rr, Rnr, Rej}
 use Rattle.lapd_mod128.specs.Counting.{Reading, Whole, Tagged}
 use Rattle.lapd_supervision.specs.Tags.{tag_control}
+use Rattle.lapd_link_definition.specs.declared.state.State.TheVariants.{TeiAssigned, AwaitingEstablishment}
 use Rattle.lapd_link_definition.specs.EndOfStep.{is_7_or_8}
+use Rattle.lapd_link_definition.specs.End.{End}
 use Rattle.lapd_link_definition.specs.Parameters.{Parameters}
 use Rattle.lapd_pair_laws.specs.Consistent.{IsConsistentWorld}
 use Rattle.lapd_pair_laws.specs.Invariant.{IsInvariant}
 use Rattle.lapd_pair_laws.specs.Line.{Flight}
-use Rattle.lapd_pair_laws.specs.Move.{PairEvent, Deliver, Move, Station}
+use Rattle.lapd_pair_laws.specs.Move.{PairEvent, Deliver, Lose, Expire200, Expire203, Move}
 use Rattle.lapd_pair_laws.specs.Tagged.{tag_flight, tag_world}
-use Rattle.lapd_pair_laws.specs.World.{World, new_world, happens, world_after, run}
+use Rattle.lapd_pair_laws.specs.World.{World, new_world, run}
 use Rattle.lapd_pair_laws.proofs.Consistency.{run_consistent}
 use Rattle.lapd_pair_laws.proofs.Reached.{reached_tags}
+use Rattle.lapd_pair_laws.proofs.Whole.{each_run_preserves}
 use Rattle.lapd_recovery_laws.specs.AfterOutage.{IsAfterOutage, IsHeldUp, StaysUp}
-use Rattle.lapd_recovery_laws.specs.Agreed.{AreLevel}
-use Rattle.lapd_recovery_laws.specs.Deliveries.{most_deliveries}
+use Rattle.lapd_recovery_laws.specs.Agreed.{AreLevel, AreReleased, AreAgreed}
+use Rattle.lapd_recovery_laws.specs.EarlyTimers.{IsLineMove, AreLineMoves}
 use Rattle.lapd_recovery_laws.specs.EveryWorld.{IsFreeWorld}
-use Rattle.lapd_recovery_laws.specs.Own.{is_due, AreOwn, Rests}
+use Rattle.lapd_recovery_laws.specs.Losses.{is_loss, one_if, losses}
+use Rattle.lapd_recovery_laws.specs.Own.{Rests}
 use Rattle.lapd_recovery_laws.specs.WantedLine.{IsWanting, is_dm, NoneRefused, IsWanted}
-use Rattle.lapd_recovery_laws.proofs.AfterOutage.{own_moves_reach, level_at_rest, stays_up_on_tags, wanting_by_tags}
-use Rattle.lapd_recovery_laws.proofs.AnyOrder.{rests_still}
+use Rattle.lapd_recovery_laws.proofs.AfterOutage.{facts_after, wanting_by_tags}
+use Rattle.lapd_recovery_laws.proofs.CountedMoves.{after}
+use Rattle.lapd_recovery_laws.proofs.DespiteTimers.{despite_timers, line_moves_by_tags}
 use Rattle.lapd_recovery_laws.proofs.DiscSent.{no_disc_after_run}
-use Rattle.lapd_recovery_laws.proofs.EveryWorld.{Begins, emptied_at, delivered, free_world_by_tags}
-use Rattle.lapd_recovery_laws.proofs.KeepsWanted.{IsUndisturbed, undisturbed, delivery_keeps}
-use Rattle.lapd_recovery_laws.proofs.Lost.{at}
+use Rattle.lapd_recovery_laws.proofs.EveryWorld.{free_world_by_tags}
+use Rattle.lapd_recovery_laws.proofs.KeepsWanted.{Wants, IsUndisturbed, undisturbed, delivery_keeps}
+use Rattle.lapd_recovery_laws.proofs.OutageWorlds.{Facts}
+use Rattle.lapd_recovery_laws.proofs.OwnOnTags.{rests_by_tags, ran_on_tags, are_level_on_tags}
 use Rattle.lapd_recovery_laws.proofs.RunsEmpty as runs
+use Rattle.lapd_recovery_laws.proofs.TimersWanted.{t200_keeps, t203_keeps}
 
-module _ (N : ℕ) (some : 1 ≤ N) where
-  abbrev Rises : List Move → World → Type 0
-  Rises moves w =
-      AreOwn Whole moves w → Rests Whole (run Whole moves w)
-      → AreLevel (run Whole moves w).user.end (run Whole moves w).network.end
+-- ---- Every move but a loss keeps the line wanted.
 
-  -- the line is empty
-  from_empty : (n : ℕ) (x y : Station) (moves : List Move) → Begins N some n (at x y [] [])
-      → IsUndisturbed (at x y [] []) → Rises moves (at x y [] [])
-  from_empty n x y moves b k own rests =
-      let w = at x y [] [] in
-      let e = emptied_at N some true n x y b (λ _. k.ends) in
-      let now = run Whole moves w in
-      let reached = own_moves_reach true N some e.m w moves e.coming b.facts own in
-      level_at_rest N (e.m - length moves) now reached.arriving reached.facts
-      (run_consistent Whole moves w b.preserved)
-      (rests_still now.user now.network now.to_user now.to_network rests) rests
-
-  -- the other moves
+module _ (N : ℕ) where
   abbrev Rest : List Move → Type 0
-  Rest moves = (n : ℕ) (w : World) → Begins N some n w → IsUndisturbed w → Rises moves w
+  Rest moves =
+      (w : World) → Facts N w → IsUndisturbed w → AreLineMoves Whole moves w → losses moves ≡ 0
+      → IsUndisturbed (run Whole moves w)
 
-  -- while a frame is in transit, only deliveries are due
-  first_delivered : (n : ℕ) (s : Side) (w : World) (moves : List Move) → Begins N some n w
-      → IsUndisturbed w → Rest moves
-      → is_ok (happens Whole (record { side = s; event = Deliver }) w) ≡ true
-      → Rises moves (world_after w (happens Whole (record { side = s; event = Deliver }) w))
-  first_delivered n s w moves b k rest ok =
-      rest (n - 1) (world_after w (happens Whole (record { side = s; event = Deliver }) w))
-      (delivered N some n s w b ok) (delivery_keeps N s w b.facts k ok)
+  first : (s : Side) (event : PairEvent) (w : World) (moves : List Move) → Facts N w
+      → IsUndisturbed w → Rest moves → IsLineMove Whole (record { side = s; event = event }) w
+      → AreLineMoves Whole moves (after s event w) → one_if (is_loss event) + losses moves ≡ 0
+      → IsUndisturbed (run Whole moves (after s event w))
+  first s Deliver w moves f k rest one own none =
+      rest (after s Deliver w) (facts_after N (record { side = s; event = Deliver }) w f)
+      (delivery_keeps N s w f k one.admitted) own (omega (arith, none))
+  first s Expire200 w moves f k rest one own none =
+      rest (after s Expire200 w) (facts_after N (record { side = s; event = Expire200 }) w f)
+      (t200_keeps s w f.have k one.admitted) own (omega (arith, none))
+  first s Expire203 w moves f k rest one own none =
+      rest (after s Expire203 w) (facts_after N (record { side = s; event = Expire203 }) w f)
+      (t203_keeps s w f.have k one.admitted) own (omega (arith, none))
+  first s (Lose i) w moves f k rest one own none = absurd (omega (arith, none))
+  first s event w moves f k rest one own none = let impossible = one.of_line in cc
 
-  first_to_user : (n : ℕ) (s : Side) (event : PairEvent) (x y : Station) (frame : Flight)
-      (arriving to_network : List Flight) (moves : List Move)
-      → Begins N some n (at x y (frame ∷ arriving) to_network)
-      → IsUndisturbed (at x y (frame ∷ arriving) to_network) → Rest moves
-      → is_due event (at x y (frame ∷ arriving) to_network) ≡ true
-      → is_ok (happens Whole (record { side = s; event = event })
-      (at x y (frame ∷ arriving) to_network)) ≡ true
-      → Rises moves (world_after (at x y (frame ∷ arriving) to_network)
-      (happens Whole (record { side = s; event = event })
-      (at x y (frame ∷ arriving) to_network)))
-  first_to_user n s Deliver x y frame arriving to_network moves b k rest due ok =
-      first_delivered n s (at x y (frame ∷ arriving) to_network) moves b k rest ok
-  first_to_user n s event x y frame arriving to_network moves b k rest due ok = cc
+  stays_wanted : (moves : List Move) (w : World) → Facts N w → IsUndisturbed w
+      → AreLineMoves Whole moves w → losses moves ≡ 0 → IsUndisturbed (run Whole moves w)
+  stays_wanted [] w f k own none = k
+  stays_wanted (move ∷ moves) w f k own none =
+      first move.side move.event w moves f k
+      (λ v facts wanted rest nothing. stays_wanted moves v facts wanted rest nothing) own.0 own.1
+      none
 
-  first_to_network : (n : ℕ) (s : Side) (event : PairEvent) (x y : Station) (frame : Flight)
-      (arriving : List Flight) (moves : List Move) → Begins N some n (at x y [] (frame ∷ arriving))
-      → IsUndisturbed (at x y [] (frame ∷ arriving)) → Rest moves
-      → is_due event (at x y [] (frame ∷ arriving)) ≡ true
-      → is_ok
-      (happens Whole (record { side = s; event = event }) (at x y [] (frame ∷ arriving)))
-      ≡ true
-      → Rises moves (world_after (at x y [] (frame ∷ arriving))
-      (happens Whole (record { side = s; event = event }) (at x y [] (frame ∷ arriving))))
-  first_to_network n s Deliver x y frame arriving moves b k rest due ok =
-      first_delivered n s (at x y [] (frame ∷ arriving)) moves b k rest ok
-  first_to_network n s event x y frame arriving moves b k rest due ok = cc
+-- an end in state 4 does not want the link
+wants_not : (x : End) (outgoing incoming : List Flight) → x.state ≡ TeiAssigned
+    → Wants x outgoing incoming → ⊥
+wants_not x outgoing incoming is (inl (inl opened)) =
+    let shut : is_7_or_8 x.state ≡ false = ap is_7_or_8 is in cc
+wants_not x outgoing incoming is (inl (inr waits)) =
+    let impossible : TeiAssigned ≡ AwaitingEstablishment = sym is ∙ waits.0 in cc
+wants_not x outgoing incoming is (inr asks) =
+    let impossible : TeiAssigned ≡ AwaitingEstablishment = sym is ∙ asks.0 in cc
 
-  rises : (moves : List Move) (n : ℕ) (x y : Station) (to_user to_network : List Flight)
-      → Begins N some n (at x y to_user to_network) → IsUndisturbed (at x y to_user to_network)
-      → Rises moves (at x y to_user to_network)
-  rises moves n x y [] [] b k own rests = from_empty n x y moves b k own rests
-  rises [] n x y (frame ∷ arriving) to_network b k own rests =
-      let still = rests_still x y (frame ∷ arriving) to_network rests in
-      let none = still.to_user in cc
-  rises [] n x y [] (frame ∷ arriving) b k own rests =
-      let still = rests_still x y [] (frame ∷ arriving) rests in let none = still.to_network in cc
-  rises (move ∷ moves) n x y (frame ∷ arriving) to_network b k own rests =
-      first_to_user n move.side move.event x y frame arriving to_network moves b k
-      (λ m w begins wanted own rests. rises moves m w.user w.network w.to_user w.to_network begins
-      wanted own rests) own.0.due own.0.admitted own.1 rests
-  rises (move ∷ moves) n x y [] (frame ∷ arriving) b k own rests =
-      first_to_network n move.side move.event x y frame arriving moves b k
-      (λ m w begins wanted own rests. rises moves m w.user w.network w.to_user w.to_network begins
-      wanted own rests) own.0.due own.0.admitted own.1 rests
+-- ends that agree, and one of them wants the link
+wanted_level : (w : World) → IsUndisturbed w → AreAgreed w → AreLevel w.user.end w.network.end
+wanted_level w k a = by_ends a.ends k.either
+  where
+    by_ends : AreReleased w.user.end w.network.end ⊎ AreLevel w.user.end w.network.end
+        → Wants w.user.end w.to_network w.to_user ⊎ Wants w.network.end w.to_user w.to_network
+        → AreLevel w.user.end w.network.end
+    by_ends (inr level) either = level
+    by_ends (inl r) (inl mine) =
+        absurd (wants_not w.user.end w.to_network w.to_user r.mine mine)
+    by_ends (inl r) (inr its) =
+        absurd (wants_not w.network.end w.to_user w.to_network r.its its)
+
+stays_up_on_tags : (w : World) → IsInvariant w → IsConsistentWorld Whole w → StaysUp Whole w
+    → StaysUp Tagged (tag_world w)
+stays_up_on_tags w i preserved up moves own none rests =
+    let now = run Whole moves w in
+    let same : run Tagged moves (tag_world w) ≡ tag_world now = ran_on_tags moves w i preserved in
+    let still : Rests Whole now =
+    rests_by_tags now (each_run_preserves moves w i)
+    (run_consistent Whole moves w preserved) (subst (λ v. Rests Tagged v) same rests) in
+    subst (λ (v : World). AreLevel v.user.end v.network.end) (sym same)
+    (are_level_on_tags now.user.end now.network.end
+    (up moves (line_moves_by_tags moves w i preserved own).own none still))
 
 -- ---- After every run, on whole numbers and on tags.
 
@@ -139,20 +137,17 @@ module _ (N : ℕ) (some : 1 ≤ N) (user network : Parameters) (user_small : us
   preserved = runs.preserved user network user_small network_small user_some network_some moves
 
   up_whole : IsFreeWorld N reached → IsWanted reached → StaysUp Whole reached
-  up_whole a k own_moves own rests =
-      let b : Begins N some (most_deliveries reached) reached = record {
-        facts =
-            runs.facts user network user_small network_small user_some network_some moves N
-            a.user_retries a.network_retries;
-        preserved = preserved;
-        flow = runs.flow_begins reached holds preserved;
-        user_free = a.user_free;
-        network_free = a.network_free;
-      } in
-      rises N some own_moves (most_deliveries reached) reached.user reached.network reached.to_user
-      reached.to_network b
-      (undisturbed reached k (no_disc_after_run user network user_small network_small user_some
-      network_some moves k.ends.mine.not_releasing k.ends.its.not_releasing)) own rests
+  up_whole a k moves_on own none rests =
+      let facts =
+      runs.facts user network user_small network_small user_some network_some moves N
+      a.user_retries a.network_retries in
+      let wanted =
+      undisturbed reached k (no_disc_after_run user network user_small network_small user_some
+      network_some moves k.ends.mine.not_releasing k.ends.its.not_releasing) in
+      wanted_level (run Whole moves_on reached)
+      (stays_wanted N moves_on reached facts wanted own none)
+      ((despite_timers N some reached facts preserved a.user_free a.network_free).agreed moves_on own
+      rests)
 
   comes_up_by : (r : Reading) → IsFreeWorld N (run r moves (new_world user network))
       → IsWanted (run r moves (new_world user network))

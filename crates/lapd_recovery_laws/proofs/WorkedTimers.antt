@@ -1,11 +1,12 @@
 -- Worked runs with early timers, computed in both readings.
-use Rattle.std.proofs.Common.{◌≡◌, true, refl, arith}
+use Rattle.std.proofs.Common.{◌≡◌, inl, true, refl, arith}
 use Rattle.lapd_mod128.specs.Counting.{Reading, Whole, Tagged}
 use Rattle.lapd_pair_laws.specs.Schedule.{establishing}
 use Rattle.lapd_pair_laws.specs.World.{run}
 use Rattle.lapd_pair_laws.proofs.ComputedRun.{computed_run}
 use Rattle.lapd_recovery_laws.specs.FewLosses.{t200s, most_t200s, OutlastLosses}
 use Rattle.lapd_recovery_laws.specs.Recovered.{both_in_7, agreed_after, least_pair, all_admitted, eight_wait, t200_beside_frames, network_sabme_lost, t203_before_t200}
+use Rattle.lapd_recovery_laws.specs.WantedLine.{IsWanted}
 use Rattle.lapd_recovery_laws.specs.Untimely.{untimely, outcome_of_line, t203_counted, message_sent, t200_overtakes, outcome_of_open, eight_given, t200_beside_each, seven_idle_polls}
 
 pub t200_counts : (r : Reading)
@@ -15,6 +16,11 @@ pub t200_counts : (r : Reading)
 unfolding computed_run
 t200_counts Whole = (refl, refl)
 t200_counts Tagged = (refl, refl)
+
+pub wanted_meanwhile : (r : Reading) → IsWanted (run r eight_wait least_pair)
+unfolding computed_run
+wanted_meanwhile Whole = record { ends = record { mine = record { not_releasing = λ is. cc; none_pending = λ is. cc }; its = record { not_releasing = λ is. cc; none_pending = λ is. refl }; either = inl (inl refl) }; to_user = tt; to_network = tt }
+wanted_meanwhile Tagged = record { ends = record { mine = record { not_releasing = λ is. cc; none_pending = λ is. cc }; its = record { not_releasing = λ is. cc; none_pending = λ is. refl }; either = inl (inl refl) }; to_user = tt; to_network = tt }
 
 pub t203_counts : (r : Reading)
     → (untimely r t203_before_t200 (run r network_sabme_lost least_pair)

@@ -7,7 +7,9 @@ use Rattle.lapd_link_definition.specs.End.{End}
 use Rattle.lapd_pair_laws.specs.Move.{Move}
 use Rattle.lapd_pair_laws.specs.World.{World, run}
 use Rattle.lapd_recovery_laws.specs.Agreed.{AreLevel}
-use Rattle.lapd_recovery_laws.specs.Own.{AreOwn, Rests, IsFree}
+use Rattle.lapd_recovery_laws.specs.EarlyTimers.{AreLineMoves}
+use Rattle.lapd_recovery_laws.specs.Losses.{losses}
+use Rattle.lapd_recovery_laws.specs.Own.{Rests, IsFree}
 
 -- No frame is in transit, no end in state 7 or 8 is own receiver busy, and each end retransmits at
 -- most n200 times.
@@ -30,7 +32,8 @@ pub record IsHeldUp (w : World) : Type 0 where
   pub network : IsKept w.network.end
   pub open_state : (is_7_or_8 w.user.end.state ≡ true) ⊎ (is_7_or_8 w.network.end.state ≡ true)
 
--- when no own move is possible any more, both ends are in state 7, with equal numbers
+-- When no own move is possible any more, after deliveries and expired timers in any order, both ends
+-- are in state 7, with equal numbers.
 abbrev pub StaysUp : Reading → World → Type 0
-StaysUp r w = (moves : List Move) → AreOwn r moves w → Rests r (run r moves w)
-    → AreLevel (run r moves w).user.end (run r moves w).network.end
+StaysUp r w = (moves : List Move) → AreLineMoves r moves w → losses moves ≡ 0
+    → Rests r (run r moves w) → AreLevel (run r moves w).user.end (run r moves w).network.end

@@ -192,9 +192,10 @@ pub fn every_line_comes_back()
         → ComesBack r n200 (run r moves (new_world user network)) }
 {}
 
-/// After an outage a link that one end holds up, and that neither end releases, stays up: when no
-/// own move is possible any more, both ends are in state 7 with equal numbers. The premises are
-/// those of [`every_line_comes_back`].
+/// After an outage a link that one end holds up, and that neither end releases, stays up, whenever
+/// timers expire: when no own move is possible any more, both ends are in state 7 with equal numbers.
+/// The premises are those of [`every_line_comes_back`], but T200 and T203 expire as in
+/// [`every_wanted_line_comes_up`].
 pub fn every_held_line_stays_up()
     ensures { (r : Reading) (n200 : ℕ) → 1 ≤ n200 → (user network : Parameters)
         → user.k ≤ 127 → network.k ≤ 127 → 1 ≤ user.k → 1 ≤ network.k → (moves : List Move)
@@ -240,11 +241,13 @@ pub fn every_agreement_is_kept()
         → KeepsAgreement r n200 (run r moves (new_world user network)) }
 {}
 
-/// A link that one end wants and neither end releases comes up, with frames in transit or not: when
-/// no own move is possible any more, both ends are in state 7 with equal numbers. An end wants the
-/// link in states 7 and 8, and in state 5 with a retransmission left. No end is in state 6 or has a
-/// release pending, and no DM is in transit. The other premises are those of
-/// [`every_world_comes_back`], which bounds the moves.
+/// A link that one end wants and neither end releases comes up, with frames in transit or not, and
+/// whenever timers expire: when no own move is possible any more, both ends are in state 7 with equal
+/// numbers. An end wants the link in states 7 and 8, and in state 5 with a retransmission left. No end
+/// is in state 6 or has a release pending, and no DM is in transit. Moves are deliveries, T200 wherever
+/// it runs, but not while a command with P=1 of its end, or the response to it, is in transit, and T203
+/// wherever it runs, in any order; no frame is lost. The other premises are those of
+/// [`every_world_comes_back_despite_early_timers`], which bounds the moves.
 pub fn every_wanted_line_comes_up()
     ensures { (r : Reading) (n200 : ℕ) → 1 ≤ n200 → (user network : Parameters)
         → user.k ≤ 127 → network.k ≤ 127 → 1 ≤ user.k → 1 ≤ network.k → (moves : List Move)
@@ -284,8 +287,8 @@ pub fn every_world_comes_back_despite_early_timers()
 /// Runs with early timers are bounded as expected, on whole numbers and on tags. The first two pass
 /// the bound of own moves, and keep the one that counts early timers: T200 expires beside messages
 /// in transit, nine times; and T203 expires before T200 of the peer, four times. In the third a poll
-/// is lost, and T200 expires in state 8 while the message before the poll is still in transit. In the
-/// last two both ends are in states 7 and 8. T200 expires beside each of eight messages in transit,
+/// is lost, and T200 expires in state 8 while the message before the poll is still in transit. The
+/// first begins in a world that is wanted, and brings the link up. In the last two both ends are in states 7 and 8. T200 expires beside each of eight messages in transit,
 /// within the bound of few losses, which counts no T200; and T203 expires seven times with nothing to
 /// do, which passes that bound unless it counts them.
 pub fn early_timers_are_computed()
@@ -294,6 +297,7 @@ pub fn early_timers_are_computed()
         ≡ record { lost = 0; early = 9; late = 0 })
         × (outcome_of_line r t200_beside_frames (run r eight_wait least_pair)
         ≡ both_in_7 48 8 0) }
+    ensures wanted_meanwhile { (r : Reading) → IsWanted (run r eight_wait least_pair) }
     ensures t203_counts { (r : Reading)
         → (untimely r t203_before_t200 (run r network_sabme_lost least_pair)
         ≡ record { lost = 0; early = 4; late = 0 })
