@@ -1,5 +1,5 @@
 -- Agreement is kept after every run, on whole numbers and on tags.
-use Rattle.std.proofs.Common.{◌≡◌, ◌⊎◌, inl, inr, ℕ, ◌≤◌, ◌==◌, ◌&&◌, ◌||◌, true, false, List, ◌∷◌, map, refl, sym, ap, subst, ◌∙◌, arith, []}
+use Rattle.std.proofs.Common.{◌≡◌, ◌⊎◌, inl, inr, ℕ, ◌≤◌, ◌==◌, ◌&&◌, not, true, false, List, ◌∷◌, map, refl, sym, ap, subst, ◌∙◌, arith, []}
 use Rattle.lapd_frame.specs.declared.Role.{Role}
 use Rattle.lapd_frame.specs.declared.Role.TheVariants.{Command, Answer}
 use Rattle.lapd_frame.specs.declared.Control.{Control}
@@ -13,7 +13,7 @@ use Rattle.lapd_pair_laws.specs.Consistent.{IsConsistentWorld}
 use Rattle.lapd_pair_laws.specs.Invariant.{IsInvariant}
 use Rattle.lapd_pair_laws.specs.Kinds.{kind_of, kinds, tally, poll_of, final_of}
 use Rattle.lapd_pair_laws.specs.Line.{Flight}
-use Rattle.lapd_pair_laws.specs.Move.{PairEvent, Expire200, Expire203, Move}
+use Rattle.lapd_pair_laws.specs.Move.{PairEvent, Move}
 use Rattle.lapd_pair_laws.specs.Tagged.{tag_flight, tag_world}
 use Rattle.lapd_pair_laws.specs.World.{World, new_world, world_after, happens, run, left}
 use Rattle.lapd_pair_laws.proofs.Consistency.{run_consistent}
@@ -21,11 +21,14 @@ use Rattle.lapd_pair_laws.proofs.Reached.{reached_tags}
 use Rattle.lapd_pair_laws.proofs.TaggedMoves.{left_on_tags}
 use Rattle.lapd_pair_laws.proofs.Whole.{each_move_preserves}
 use Rattle.lapd_recovery_laws.specs.Agreed.{AreReleased}
+use Rattle.lapd_recovery_laws.specs.Deliveries.{frames}
+use Rattle.lapd_recovery_laws.specs.EarlyTimers.{is_early, overtaken, most_line_moves}
 use Rattle.lapd_recovery_laws.specs.EveryWorld.{IsFreeWorld}
-use Rattle.lapd_recovery_laws.specs.KeptAgreement.{is_answered, polls_in_transit, are_in_step, is_due_or_203, AreOwnOr203, IsEqual, AreEqual, AreInAgreement, KeepsAgreement}
-use Rattle.lapd_recovery_laws.specs.Own.{is_due}
-use Rattle.lapd_recovery_laws.proofs.EveryWorld.{world_comes_back, free_world_by_tags}
-use Rattle.lapd_recovery_laws.proofs.OwnOnTags.{due_on_tags, ok_on_tags, world_on_tags, ran_on_tags}
+use Rattle.lapd_recovery_laws.specs.KeptAgreement.{is_answered, polls_in_transit, are_in_step, is_out_of_step, earlies_out_of_step, IsEqual, AreEqual, AreInAgreement, KeepsAgreement}
+use Rattle.lapd_recovery_laws.specs.Losses.{one_if}
+use Rattle.lapd_recovery_laws.proofs.DespiteTimers.{despite_timers, early_on_tags, line_moves_by_tags}
+use Rattle.lapd_recovery_laws.proofs.EveryWorld.{free_world_by_tags}
+use Rattle.lapd_recovery_laws.proofs.OwnOnTags.{world_on_tags, ran_on_tags}
 use Rattle.lapd_recovery_laws.proofs.RunsEmpty as runs
 use Rattle.lapd_recovery_laws.proofs.KeepsAgreement.{Kept, settled, settled_by_tags, world_keeps}
 
@@ -86,27 +89,23 @@ in_step_on_tags w =
     (polls_in_transit w.to_network w.to_user) && is_answered w.network.end.state n))
     (in_transit_on_tags w.to_user w.to_network)
 
-due_or_203_on_tags : (event : PairEvent) (w : World)
-    → is_due_or_203 event (tag_world w) ≡ is_due_or_203 event w
-due_or_203_on_tags Expire203 w =
-    ap (λ b. b || are_in_step (tag_world w)) (due_on_tags Expire203 w)
-    ∙ ap (λ b. is_due Expire203 w || b) (in_step_on_tags w)
-due_or_203_on_tags Expire200 w = due_on_tags Expire200 w
-due_or_203_on_tags event w = refl
+out_on_tags : (event : PairEvent) (w : World)
+    → is_out_of_step event (tag_world w) ≡ is_out_of_step event w
+out_on_tags event w =
+    ap (λ b. b && not (are_in_step (tag_world w))) (early_on_tags event w)
+    ∙ ap (λ b. is_early event w && not b) (in_step_on_tags w)
 
-own_by_tags : (moves : List Move) (w : World) → IsInvariant w → IsConsistentWorld Whole w
-    → AreOwnOr203 Tagged moves (tag_world w) → AreOwnOr203 Whole moves w
-own_by_tags [] w i preserved own = tt
-own_by_tags (move ∷ moves) w i preserved own =
-    let now = world_after w (happens Whole move w) in (
-      record {
-        due = sym (due_or_203_on_tags move.event w) ∙ own.0.due;
-        admitted = sym (ok_on_tags move w i preserved) ∙ own.0.admitted;
-      },
-      own_by_tags moves now (each_move_preserves move w i)
-          (run_consistent Whole (move ∷ []) w preserved)
-          (subst (λ v. AreOwnOr203 Tagged moves v) (world_on_tags move w i preserved) own.1),
-    )
+outs_on_tags : (moves : List Move) (w : World) → IsInvariant w → IsConsistentWorld Whole w
+    → earlies_out_of_step Tagged moves (tag_world w) ≡ earlies_out_of_step Whole moves w
+outs_on_tags [] w i preserved = refl
+outs_on_tags (move ∷ moves) w i preserved =
+    let now = world_after w (happens Whole move w) in
+    let one = ap one_if (out_on_tags move.event w) in
+    let rest =
+    ap (λ v. earlies_out_of_step Tagged moves v) (world_on_tags move w i preserved)
+    ∙ outs_on_tags moves now (each_move_preserves move w i)
+    (run_consistent Whole (move ∷ []) w preserved) in
+    omega (arith, one, rest)
 
 equal_on_tags : (x y : End) → IsEqual x y → IsEqual (tag_end x) (tag_end y)
 unfolding tag_variables
@@ -132,13 +131,20 @@ in_agreement_on_tags w a = record { empty = left_on_tags w ∙ a.empty; ends = b
 keeps_on_tags : (N : ℕ) (w : World) → IsInvariant w → IsConsistentWorld Whole w → Kept N w
     → KeepsAgreement Tagged N (tag_world w)
 keeps_on_tags N w i preserved k = record {
-  reached = λ moves own le.
-      let l = left_on_tags w in
-      let f = runs.frames_on_tags w in
-      ran moves (k.reached moves (own_by_tags moves w i preserved own) (omega (arith, l, f, le)));
+  reached = λ moves own none le.
+      let a = line_moves_by_tags moves w i preserved own in
+      let l : left (tag_world w) ≡ left w = left_on_tags w in
+      let f : frames (tag_world w) ≡ frames w = runs.frames_on_tags w in
+      let out = outs_on_tags moves w i preserved in
+      let late = a.late in
+      let same : most_line_moves 0 (earlies_out_of_step Tagged moves (tag_world w))
+      (overtaken Tagged moves (tag_world w)) N (tag_world w)
+      ≡ most_line_moves 0 (earlies_out_of_step Whole moves w) (overtaken Whole moves w) N w =
+      rw (out, late, l, f) refl in
+      ran moves (k.reached moves a.own none (omega (arith, same, le)));
   kept =
-      λ a moves own. ran moves (k.kept (settled_by_tags N w (settled N (tag_world w) a)) moves
-      (own_by_tags moves w i preserved own));
+      λ a moves own none. ran moves (k.kept (settled_by_tags N w (settled N (tag_world w) a)) moves
+      (line_moves_by_tags moves w i preserved own).own none);
   idle = λ is its_is off its_off. in_step_on_tags w ∙ k.in_step is its_is off its_off;
 }
   where
@@ -166,7 +172,7 @@ module _ (N : ℕ) (some : 1 ≤ N) (user network : Parameters) (user_small : us
       runs.facts user network user_small network_small user_some network_some moves N
       a.user_retries a.network_retries in
       world_keeps N reached (record { facts = facts; preserved = preserved })
-      (world_comes_back N some reached facts preserved a.user_free a.network_free)
+      (despite_timers N some reached facts preserved a.user_free a.network_free)
 
   kept_by : (r : Reading) → IsFreeWorld N (run r moves (new_world user network))
       → KeepsAgreement r N (run r moves (new_world user network))
@@ -175,7 +181,7 @@ module _ (N : ℕ) (some : 1 ≤ N) (user network : Parameters) (user_small : us
       record {
         reached = k.reached;
         idle = k.in_step;
-        kept = λ agreed own_moves own. k.kept (settled N reached agreed) own_moves own;
+        kept = λ agreed own_moves own none. k.kept (settled N reached agreed) own_moves own none;
       }
   kept_by Tagged a =
       let same : run Tagged moves (new_world user network) ≡ tag_world reached =

@@ -62,7 +62,7 @@ despite_timers N some w facts preserved user_free network_free =
 
 -- ---- On tags.
 
-early_on_tags : (event : PairEvent) (w : World) → is_early event (tag_world w) ≡ is_early event w
+pub early_on_tags : (event : PairEvent) (w : World) → is_early event (tag_world w) ≡ is_early event w
 early_on_tags Expire200 w = ap not (due_on_tags Expire200 w)
 early_on_tags Expire203 w = ap not (due_on_tags Expire203 w)
 early_on_tags event w = refl
@@ -90,8 +90,8 @@ overtaken_by_tags side.Network event w = refl
 -- the same moves on whole numbers
 pub record AreSame (moves : List Move) (w : World) : Type 0 where
   pub own : AreLineMoves Whole moves w
-  early : earlies Tagged moves (tag_world w) ≡ earlies Whole moves w
-  late : overtaken Tagged moves (tag_world w) ≡ overtaken Whole moves w
+  pub early : earlies Tagged moves (tag_world w) ≡ earlies Whole moves w
+  pub late : overtaken Tagged moves (tag_world w) ≡ overtaken Whole moves w
 
 pub line_moves_by_tags : (moves : List Move) (w : World) → IsInvariant w → IsConsistentWorld Whole w
     → AreLineMoves Tagged moves (tag_world w) → AreSame moves w

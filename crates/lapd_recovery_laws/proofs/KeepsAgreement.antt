@@ -1,64 +1,58 @@
--- Own moves, and T203 in state 7 at both ends too, lead to agreement and keep it.
-use Rattle.std.proofs.Common.{◌≡◌, ◌⊎◌, inl, inr, ℕ, ◌+◌, ◌-◌, ◌≤◌, ◌==◌, nat_lt, ◌&&◌, ◌||◌, Bool, true, false, List, ◌∷◌, ◌++◌, length, Result, is_ok, refl, sym, ap, subst, ◌∙◌, arith, []}
+-- Deliveries and expired timers lead to agreement and keep it.
+use Rattle.std.proofs.Common.{◌≡◌, ◌⊎◌, inl, inr, ℕ, zero, suc, ◌*◌, not, ◌+◌, ◌-◌, ◌≤◌, ◌==◌, nat_lt, ◌&&◌, Bool, true, false, List, ◌∷◌, ◌++◌, length, is_ok, refl, sym, ap, subst, ◌∙◌, arith, []}
 use Rattle.std.proofs.lemmas.Bool.{eqb-true}
 use Rattle.std.proofs.lemmas.Bool.Decides.{nat_tests}
-use Rattle.lapd_timers.specs.declared.timer.Timer.TheVariants.{T203}
-use Rattle.lapd_frame.specs.declared.Role.TheVariants.{Command}
 use Rattle.lapd_frame.specs.declared.Side.{Side}
 use Rattle.lapd_frame.specs.declared.Side.TheVariants as side
 use Rattle.lapd_mod128.specs.Counting.{Whole}
-use Rattle.lapd_supervision.specs.StateVariables.{status_frame, without_ack_pending}
 use Rattle.lapd_link_definition.specs.declared.state.State.{State}
 use Rattle.lapd_link_definition.specs.declared.state.State.TheVariants.{TeiAssigned, AwaitingEstablishment, AwaitingRelease, MultipleFrameEstablished, TimerRecovery}
-use Rattle.lapd_link_definition.specs.EndOfStep.{is_7_or_8, end_step}
-use Rattle.lapd_link_definition.specs.End.{End, StepState, begin, unsent, waiting}
-use Rattle.lapd_link_definition.specs.Established.{multiple_frame_established}
-use Rattle.lapd_link_definition.specs.Input.{Expiry}
-use Rattle.lapd_link_definition.specs.Procedures.{expired, rc_to, transmit_enquiry, state_to}
-use Rattle.lapd_link_definition.specs.Table.{by_state, row, step}
+use Rattle.lapd_link_definition.specs.EndOfStep.{is_7_or_8}
+use Rattle.lapd_link_definition.specs.End.{End, begin, unsent, waiting}
+use Rattle.lapd_link_definition.specs.Table.{step}
 use Rattle.lapd_link_definition.specs.Tagging.{tag_end}
 use Rattle.lapd_pair_laws.specs.Conjuncts.{IsNumbering}
 use Rattle.lapd_pair_laws.specs.Consistent.{IsConsistentWorld}
 use Rattle.lapd_pair_laws.specs.Invariant.{Both, IsInvariant}
 use Rattle.lapd_pair_laws.specs.Kinds.{Kind, kind, kinds, tally, poll_of, final_of}
-use Rattle.lapd_pair_laws.specs.Line.{Flight, without_info}
-use Rattle.lapd_pair_laws.specs.Move.{PairEvent, Deliver, Expire200, Expire203, Move, Station, View, ViewStep, Refusal, acts, expires_203, takes, story_after, view_after}
+use Rattle.lapd_pair_laws.specs.Line.{Flight}
+use Rattle.lapd_pair_laws.specs.Move.{PairEvent, Deliver, Lose, Expire200, Expire203, Move, Station, View, acts}
 use Rattle.lapd_pair_laws.specs.Parties.{party}
 use Rattle.lapd_pair_laws.specs.Tagged.{tag_world}
 use Rattle.lapd_pair_laws.specs.Timed.{IsSettledEnd, AreSettledEnds}
 use Rattle.lapd_pair_laws.specs.World.{World, swapped, with_view, view_of, world_after, happens, run, left}
 use Rattle.lapd_link_definition.specs.RunningTimers.{HasTimersOfState}
-use Rattle.lapd_pair_laws.proofs.ActionEffects.{Context, story, enquiry_kind}
 use Rattle.lapd_pair_laws.proofs.Consistency.{run_consistent}
 use Rattle.lapd_pair_laws.proofs.DrainsAfterRuns.{unmapped}
 use Rattle.lapd_pair_laws.proofs.Facts.{between_open}
-use Rattle.lapd_pair_laws.proofs.Lists.{by_test, tally_append}
+use Rattle.lapd_pair_laws.proofs.Lists.{tally_append}
 use Rattle.lapd_pair_laws.proofs.MidSteps.{Mid, enter, numbering}
 use Rattle.lapd_pair_laws.proofs.Settles.{in_7}
-use Rattle.lapd_pair_laws.proofs.States.{enquiry_puts}
-use Rattle.lapd_pair_laws.proofs.Steps.{context}
 use Rattle.lapd_pair_laws.proofs.Stepping.{user_move}
 use Rattle.lapd_pair_laws.proofs.Swaps.{network_alike}
 use Rattle.lapd_pair_laws.proofs.TaggedMoves.{left_on_tags}
 use Rattle.lapd_pair_laws.proofs.Worlds.{left_by}
 use Rattle.lapd_recovery_laws.specs.Agreed.{AreReleased, AreLevel, AreAgreed}
 use Rattle.lapd_recovery_laws.specs.Deliveries.{most_deliveries}
-use Rattle.lapd_recovery_laws.specs.EveryWorld.{WorldComesBack, most_moves_from}
-use Rattle.lapd_recovery_laws.specs.KeptAgreement.{is_answered, polls_in_transit, are_in_step, is_due_or_203, IsOwnOr203, AreOwnOr203, IsEqual, AreInAgreement}
-use Rattle.lapd_recovery_laws.specs.Own.{is_due, IsOwn}
+use Rattle.lapd_recovery_laws.specs.EarlyTimers.{IsLineMove, AreLineMoves, is_early, earlies, messages_in, if_in_8, overtaken_by, overtaken, most_line_moves, ComesBackDespiteTimers}
+use Rattle.lapd_recovery_laws.specs.EveryWorld.{most_moves_from}
+use Rattle.lapd_recovery_laws.specs.Losses.{is_loss, one_if, losses}
+use Rattle.lapd_recovery_laws.specs.KeptAgreement.{is_answered, polls_in_transit, are_in_step, is_out_of_step, earlies_out_of_step, IsEqual, AreInAgreement}
+use Rattle.lapd_recovery_laws.specs.Own.{is_empty, IsOwn, Rests}
 use Rattle.lapd_recovery_laws.specs.Timers.{HaveTimersOfStates}
-use Rattle.lapd_recovery_laws.proofs.AfterOutage.{facts_after, Returns}
+use Rattle.lapd_recovery_laws.proofs.AfterOutage.{facts_after}
 use Rattle.lapd_recovery_laws.proofs.AnyOrder.{none_there, none_there_too}
 use Rattle.lapd_recovery_laws.proofs.OneMoreFrame.{seeing}
 use Rattle.lapd_recovery_laws.proofs.CountedMoves.{after}
 use Rattle.lapd_recovery_laws.proofs.EndSends.{kinds_append, stops_full}
-use Rattle.lapd_recovery_laws.proofs.StaysOpen.{IsOpen, stays_open}
+use Rattle.lapd_recovery_laws.proofs.StaysOpen.{IsOpen, stays_open, awaits_none}
 use Rattle.lapd_recovery_laws.proofs.PeerReleased.{t200_runs, t203_runs, ok_of_side}
-use Rattle.lapd_recovery_laws.proofs.LoneSteps.{Polls, closes_in_8, polls_by_t200}
+use Rattle.lapd_recovery_laws.proofs.LoneSteps.{Polls, polls_by_t200, polls_by_t203}
 use Rattle.lapd_recovery_laws.proofs.Lost.{at}
 use Rattle.lapd_recovery_laws.proofs.LostMoves.{moved_user}
 use Rattle.lapd_recovery_laws.proofs.OutageWorlds.{Facts, facts_swapped, no_t203_if_closed}
 use Rattle.lapd_recovery_laws.proofs.RunsEmpty as runs
+use Rattle.lapd_recovery_laws.proofs.TimersBeside.{IsBeside, t200_beside, t203_beside}
 use Rattle.lapd_recovery_laws.proofs.Transitions.{timers_in}
 
 -- ---- Ends in step.
@@ -288,178 +282,97 @@ deliver N side.Network x y to_user (frame ∷ rest) f k c ok =
     by_swap Deliver w (user_delivers N y x frame rest to_user (facts_swapped N w f)
     (consistent_swapped w k) (calm_swapped w c))
 
--- ---- T200 expires on an empty line: in state 7.
+-- ---- A timer expires in state 7, with frames in transit or not.
 
-module _ (x y : Station) (c : Calm (at x y [] [])) where
-  abbrev empty : World
-  empty = at x y [] []
+polled : (event : PairEvent) (rc : ℕ) (w : World) (alone : View) → Polls w.user rc alone
+    → IsBeside w.to_user w.to_network alone
+    (left_by (view_of side.User w) (acts Whole side.User event (view_of side.User w)))
+    → Calm w → Calm (after side.User event w)
+polled event rc w alone p b c =
+    let v = left_by (view_of side.User w) (acts Whole side.User event (view_of side.User w)) in
+    let sent : kinds v.outgoing ≡ kinds w.to_network ++ kinds alone.outgoing =
+    ap kinds b.outgoing_is ∙ kinds_append w.to_network alone.outgoing in
+    let polls =
+    ap (λ ks. tally poll_of ks) sent
+    ∙ tally_append poll_of (kinds w.to_network) (kinds alone.outgoing) in
+    let finals =
+    ap (λ ks. tally final_of ks) sent
+    ∙ tally_append final_of (kinds w.to_network) (kinds alone.outgoing) in
+    let poll : tally poll_of (kinds alone.outgoing) ≡ poll_of (kind p.frame) + 0 =
+    ap (λ fs. tally poll_of (kinds fs)) p.outgoing in
+    let arriving : tally poll_of (kinds v.incoming) ≡ tally poll_of (kinds w.to_user) =
+    ap (λ fs. tally poll_of (kinds fs)) b.incoming_is in
+    let one = p.polls in
+    subst Calm (sym (moved_user event w)) (record {
+      user = subst (λ e. IsCalm e v.outgoing v.incoming) (sym b.end) (record {
+        open_state = ap is_7_or_8 p.polled.in_8;
+        none = p.polled.waiting_is ∙ c.user.none;
+        polled = λ is. omega (arith, polls, poll, one);
+      });
+      network = record {
+        open_state = c.network.open_state;
+        none = c.network.none;
+        polled = λ is. let some = c.network.polled is in omega (arith, some, finals, arriving);
+      };
+    })
 
-  polled : (rc : ℕ) (u : View) → Polls x rc u → Calm (with_view side.User u empty)
-  polled rc u p =
-      let out : tally poll_of (kinds u.outgoing) ≡ poll_of (kind p.frame) + 0 =
-      ap (λ fs. tally poll_of (kinds fs)) p.outgoing in
-      let one = p.polls in
-      record {
-        user = record {
-          open_state = ap is_7_or_8 p.polled.in_8;
-          none = p.polled.waiting_is ∙ c.user.none;
-          polled = λ is. omega (arith, out, one);
-        };
-        network = record {
-          open_state = c.network.open_state;
-          none = c.network.none;
-          polled = λ is. let some = c.network.polled is in omega (arith, some);
-        };
-      }
-
-  user_expires : x.end.t200 ≡ true → Calm (after side.User Expire200 empty)
-  user_expires on =
-      subst Calm (sym (moved_user Expire200 empty)) (by_state x.end.state refl c.user.open_state)
-    where
-      u : View
-      u = left_by (seeing x [] []) (acts Whole side.User Expire200 (seeing x [] []))
-
-      by_state : (state : State) → x.end.state ≡ state → is_7_or_8 state ≡ true
-          → Calm (with_view side.User u empty)
-      by_state MultipleFrameEstablished is o = polled 1 u (polls_by_t200 x is on)
-      by_state TimerRecovery is o = let some = c.user.polled is in absurd (omega (arith, some))
-      by_state TeiAssigned is o = cc
-      by_state AwaitingEstablishment is o = cc
-      by_state AwaitingRelease is o = cc
-
-expire_200 : (s : Side) (x y : Station) (to_user to_network : List Flight)
-    → Calm (at x y to_user to_network) → is_due Expire200 (at x y to_user to_network) ≡ true
-    → is_ok (happens Whole (record { side = s; event = Expire200 }) (at x y to_user to_network))
-    ≡ true → Calm (after s Expire200 (at x y to_user to_network))
-expire_200 side.User x y [] [] c due ok =
-    user_expires x y c
-    (t200_runs (seeing x [] []) (ok_of_side side.User Expire200 (at x y [] []) ok))
-expire_200 side.Network x y [] [] c due ok =
-    by_swap Expire200 (at x y [] []) (user_expires y x (calm_swapped (at x y [] []) c)
-    (t200_runs (seeing y [] []) (ok_of_side side.Network Expire200 (at x y [] []) ok)))
-expire_200 s x y (frame ∷ rest) to_network c due ok = cc
-expire_200 s x y [] (frame ∷ rest) c due ok = cc
-
--- ---- T203 expires in state 7, with frames in transit or not.
-
-module _ (x : Station) (incoming outgoing : List Flight) where
-  abbrev v : View
-  v = seeing x incoming outgoing
-
-  abbrev d : Context
-  d = context 0 [] 0 v incoming x 0
-
-  abbrev enquiry : Flight
-  enquiry = without_info Command (status_frame true x.end.window)
-
-  record Enquires (u : View) : Type 0 where
-    in_8 : u.station.end.state ≡ TimerRecovery
-    same : waiting u.station.end ≡ waiting x.end
-    sent : u.outgoing ≡ outgoing ++ enquiry ∷ []
-    unread : u.incoming ≡ incoming
-
-  record EnquiresBy (t : StepState) : Type 0 where
-    state_is : t.end.state ≡ TimerRecovery
-    waiting_is : waiting t.end ≡ waiting x.end
-    line : (story d t).line ≡ outgoing ++ enquiry ∷ []
-
-  enquires_view : (t : StepState) → EnquiresBy t → Enquires (view_after [] 0 v t)
-  unfolding view_after
-  enquires_view t e =
-      record { in_8 = e.state_is; same = e.waiting_is; sent = e.line; unread = refl }
-
-  enquires : EnquiresBy (end_step Whole
-      (state_to TimerRecovery (transmit_enquiry (rc_to 0 (expired T203 (begin x.end))))))
-  unfolding state_to transmit_enquiry without_ack_pending rc_to expired begin story_after
-  enquires =
-      let s = rc_to 0 (expired T203 (begin x.end)) in
-      subst EnquiresBy (sym (closes_in_8 (state_to TimerRecovery (transmit_enquiry s)) refl refl))
-      (record { state_is = refl; waiting_is = refl; line = (enquiry_puts d s).line })
-
-  in_7_by_t203 : x.end.t203 ≡ true
-      → EnquiresBy (end_step Whole (row Whole MultipleFrameEstablished (Expiry T203) (begin x.end)))
-  unfolding row by_state multiple_frame_established begin
-  in_7_by_t203 on =
-      by_test (λ (t : StepState). EnquiresBy (end_step Whole t)) x.end.t203 _ _ (λ _. enquires)
-      (λ off. cc)
-
-  by_t203 : x.end.t203 ≡ true
-      → EnquiresBy (end_step Whole (row Whole x.end.state (Expiry T203) (begin x.end)))
-      → Enquires (left_by v (acts Whole side.User Expire203 v))
-  unfolding acts expires_203 takes step
-  by_t203 on e =
-      by_test (λ (o : Result ViewStep Refusal). Enquires (left_by v o)) x.end.t203 _ _
-      (λ _. enquires_view _ e) (λ off. cc)
-
-  t203_enquires : x.end.state ≡ MultipleFrameEstablished → x.end.t203 ≡ true
-      → Enquires (left_by v (acts Whole side.User Expire203 v))
-  t203_enquires is on =
-      by_t203 on (subst
-      (λ st. EnquiresBy (end_step Whole (row Whole st (Expiry T203) (begin x.end)))) (sym is)
-      (in_7_by_t203 on))
-
-user_enquires : (w : World) → HasTimersOfState w.user.end → Calm w → w.user.end.t203 ≡ true
-    → Calm (after side.User Expire203 w)
-user_enquires w has c on =
-    subst Calm (sym (moved_user Expire203 w)) (by_state w.user.end.state refl c.user.open_state)
+user_200 : (w : World) → Calm w
+    → is_ok (acts Whole side.User Expire200 (view_of side.User w)) ≡ true
+    → Calm (after side.User Expire200 w)
+user_200 w c ok = by_state w.user.end.state refl c.user.open_state
   where
-    x : Station
-    x = w.user
-
-    u : View
-    u =
-        left_by (seeing x w.to_user w.to_network)
-        (acts Whole side.User Expire203 (seeing x w.to_user w.to_network))
-
-    goes : Enquires x w.to_user w.to_network u → Calm (with_view side.User u w)
-    goes e =
-        let line : kinds u.outgoing ≡ kinds w.to_network ++ kinds
-        (enquiry x w.to_user w.to_network ∷ []) =
-        ap kinds e.sent
-        ∙ kinds_append w.to_network (enquiry x w.to_user w.to_network ∷ []) in
-        let polls =
-        ap (λ ks. tally poll_of ks) line
-        ∙ tally_append poll_of (kinds w.to_network)
-        (kinds (enquiry x w.to_user w.to_network ∷ [])) in
-        let finals =
-        ap (λ ks. tally final_of ks) line
-        ∙ tally_append final_of (kinds w.to_network)
-        (kinds (enquiry x w.to_user w.to_network ∷ [])) in
-        let one : poll_of (kind (enquiry x w.to_user w.to_network)) ≡ 1 =
-        ap poll_of (enquiry_kind x.end.window) in
-        let poll_now : tally poll_of (kinds u.incoming) ≡ tally poll_of (kinds w.to_user) =
-        ap (λ fs. tally poll_of (kinds fs)) e.unread in
-        record {
-          user = record {
-            open_state = ap is_7_or_8 e.in_8;
-            none = e.same ∙ c.user.none;
-            polled = λ is. omega (arith, polls, one);
-          };
-          network = record {
-            open_state = c.network.open_state;
-            none = c.network.none;
-            polled =
-                λ is. let some = c.network.polled is in omega (arith, some, finals, poll_now);
-          };
-        }
-
-    by_state : (state : State) → x.end.state ≡ state → is_7_or_8 state ≡ true
-        → Calm (with_view side.User u w)
-    by_state MultipleFrameEstablished is o = goes (t203_enquires x w.to_user w.to_network is on)
-    by_state TimerRecovery is o = let off = (timers_in TimerRecovery x.end has is).1 in cc
+    by_state : (state : State) → w.user.end.state ≡ state → is_7_or_8 state ≡ true
+        → Calm (after side.User Expire200 w)
+    by_state MultipleFrameEstablished is o =
+        polled Expire200 1 w
+        (left_by (seeing w.user [] []) (acts Whole side.User Expire200 (seeing w.user [] [])))
+        (polls_by_t200 w.user is (t200_runs (view_of side.User w) ok))
+        (t200_beside w.user w.to_user w.to_network ok) c
+    by_state TimerRecovery is o =
+        let some = c.user.polled is in
+        let none = awaits_none (view_of side.User w) ok in
+        let no_poll = none.0 in
+        let no_final = none.1 in
+        absurd (omega (arith, some, no_poll, no_final))
     by_state TeiAssigned is o = cc
     by_state AwaitingEstablishment is o = cc
     by_state AwaitingRelease is o = cc
 
+user_203 : (w : World) → HasTimersOfState w.user.end → Calm w
+    → is_ok (acts Whole side.User Expire203 (view_of side.User w)) ≡ true
+    → Calm (after side.User Expire203 w)
+user_203 w has c ok = by_state w.user.end.state refl c.user.open_state
+  where
+    on : w.user.end.t203 ≡ true
+    on = t203_runs (view_of side.User w) ok
+
+    by_state : (state : State) → w.user.end.state ≡ state → is_7_or_8 state ≡ true
+        → Calm (after side.User Expire203 w)
+    by_state MultipleFrameEstablished is o =
+        polled Expire203 0 w
+        (left_by (seeing w.user [] []) (acts Whole side.User Expire203 (seeing w.user [] [])))
+        (polls_by_t203 w.user is on) (t203_beside w.user w.to_user w.to_network ok) c
+    by_state TimerRecovery is o =
+        let off = (timers_in TimerRecovery w.user.end has is).1 in let runs = on in cc
+    by_state TeiAssigned is o = cc
+    by_state AwaitingEstablishment is o = cc
+    by_state AwaitingRelease is o = cc
+
+expire_200 : (s : Side) (w : World) → Calm w
+    → is_ok (happens Whole (record { side = s; event = Expire200 }) w) ≡ true
+    → Calm (after s Expire200 w)
+expire_200 side.User w c ok = user_200 w c (ok_of_side side.User Expire200 w ok)
+expire_200 side.Network w c ok =
+    by_swap Expire200 w (user_200 (swapped w) (calm_swapped w c)
+    (ok_of_side side.Network Expire200 w ok))
+
 expire_203 : (s : Side) (w : World) → HaveTimersOfStates w → Calm w
     → is_ok (happens Whole (record { side = s; event = Expire203 }) w) ≡ true
     → Calm (after s Expire203 w)
-expire_203 side.User w have c ok =
-    user_enquires w have.user c
-    (t203_runs (view_of side.User w) (ok_of_side side.User Expire203 w ok))
+expire_203 side.User w have c ok = user_203 w have.user c (ok_of_side side.User Expire203 w ok)
 expire_203 side.Network w have c ok =
-    by_swap Expire203 w (user_enquires (swapped w) have.network (calm_swapped w c)
-    (t203_runs (view_of side.Network w) (ok_of_side side.Network Expire203 w ok)))
+    by_swap Expire203 w (user_203 (swapped w) have.network (calm_swapped w c)
+    (ok_of_side side.Network Expire203 w ok))
 
 -- ---- All these moves.
 
@@ -476,53 +389,59 @@ module _ (N : ℕ) where
   }
 
   calm_move : (s : Side) (event : PairEvent) (w : World) → Knows w → Calm w
-      → IsOwnOr203 Whole (record { side = s; event = event }) w → Calm (after s event w)
-  calm_move s Deliver w k c own =
-      deliver N s w.user w.network w.to_user w.to_network k.facts k.preserved c own.admitted
-  calm_move s Expire200 w k c own =
-      expire_200 s w.user w.network w.to_user w.to_network c own.due own.admitted
-  calm_move s Expire203 w k c own = expire_203 s w k.facts.have c own.admitted
-  calm_move s event w k c own = let due = own.due in cc
+      → IsLineMove Whole (record { side = s; event = event }) w → one_if (is_loss event) ≡ 0
+      → Calm (after s event w)
+  calm_move s Deliver w k c one none =
+      deliver N s w.user w.network w.to_user w.to_network k.facts k.preserved c one.admitted
+  calm_move s Expire200 w k c one none = expire_200 s w c one.admitted
+  calm_move s Expire203 w k c one none = expire_203 s w k.facts.have c one.admitted
+  calm_move s (Lose i) w k c one none = absurd (omega (arith, none))
+  calm_move s event w k c one none = let impossible = one.of_line in cc
 
-  calm_stays : (moves : List Move) (w : World) → Knows w → Calm w → AreOwnOr203 Whole moves w
-      → AreInAgreement (run Whole moves w)
-  calm_stays [] w k c own = calm_agrees w k.facts.holds k.preserved c
-  calm_stays (move ∷ moves) w k c own =
+  calm_stays : (moves : List Move) (w : World) → Knows w → Calm w → AreLineMoves Whole moves w
+      → losses moves ≡ 0 → AreInAgreement (run Whole moves w)
+  calm_stays [] w k c own none = calm_agrees w k.facts.holds k.preserved c
+  calm_stays (move ∷ moves) w k c own none =
       calm_stays moves (world_after w (happens Whole move w)) (knows_after move w k)
-      (calm_move move.side move.event w k c own.0) own.1
+      (calm_move move.side move.event w k c own.0 (omega (arith, none))) own.1
+      (omega (arith, none))
 
   -- both ends are in state 4: no move is possible
   shut : (s : Side) (event : PairEvent) (x y : Station) (to_user to_network : List Flight)
       → to_user ≡ [] → to_network ≡ [] → HaveTimersOfStates (at x y to_user to_network)
       → AreReleased x.end y.end
-      → IsOwnOr203 Whole (record { side = s; event = event }) (at x y to_user to_network) → ⊥
-  shut side.User Deliver x y [] to_network none nothing have r own =
+      → IsLineMove Whole (record { side = s; event = event }) (at x y to_user to_network)
+      → one_if (is_loss event) ≡ 0 → ⊥
+  shut side.User Deliver x y [] to_network none nothing have r own lossless =
       let ok = own.admitted in let not_there = none_there x y to_network in cc
-  shut side.Network Deliver x y to_user [] none nothing have r own =
+  shut side.Network Deliver x y to_user [] none nothing have r own lossless =
       let ok = own.admitted in let not_there = none_there_too x y to_user in cc
-  shut side.User Deliver x y (f ∷ fs) to_network none nothing have r own = cc
-  shut side.Network Deliver x y to_user (f ∷ fs) none nothing have r own = cc
-  shut side.User Expire200 x y to_user to_network none nothing have r own =
+  shut side.User Deliver x y (f ∷ fs) to_network none nothing have r own lossless = cc
+  shut side.Network Deliver x y to_user (f ∷ fs) none nothing have r own lossless = cc
+  shut side.User Expire200 x y to_user to_network none nothing have r own lossless =
       let on =
       t200_runs (seeing x to_user to_network)
       (ok_of_side side.User Expire200 (at x y to_user to_network) own.admitted) in
       let off = (timers_in TeiAssigned x.end have.user r.mine).0 in cc
-  shut side.Network Expire200 x y to_user to_network none nothing have r own =
+  shut side.Network Expire200 x y to_user to_network none nothing have r own lossless =
       let on =
       t200_runs (seeing y to_network to_user)
       (ok_of_side side.Network Expire200 (at x y to_user to_network) own.admitted) in
       let off = (timers_in TeiAssigned y.end have.network r.its).0 in cc
-  shut side.User Expire203 x y to_user to_network none nothing have r own =
+  shut side.User Expire203 x y to_user to_network none nothing have r own lossless =
       let on =
       t203_runs (seeing x to_user to_network)
       (ok_of_side side.User Expire203 (at x y to_user to_network) own.admitted) in
       let off = no_t203_if_closed x.end have.user (ap is_7_or_8 r.mine) in cc
-  shut side.Network Expire203 x y to_user to_network none nothing have r own =
+  shut side.Network Expire203 x y to_user to_network none nothing have r own lossless =
       let on =
       t203_runs (seeing y to_network to_user)
       (ok_of_side side.Network Expire203 (at x y to_user to_network) own.admitted) in
       let off = no_t203_if_closed y.end have.network (ap is_7_or_8 r.its) in cc
-  shut s event x y to_user to_network none nothing have r own = let due = own.due in cc
+  shut s (Lose i) x y to_user to_network none nothing have r own lossless =
+      omega (arith, lossless)
+  shut s event x y to_user to_network none nothing have r own lossless =
+      let impossible = own.of_line in cc
 
   -- ends that agree, as far as tags show it
   pub record AreSettled (w : World) : Type 0 where
@@ -588,76 +507,170 @@ module _ (N : ℕ) where
 
   -- from ends that agree
   stays_agreed : (moves : List Move) (w : World) → Knows w → AreSettled w
-      → AreOwnOr203 Whole moves w → AreInAgreement (run Whole moves w)
-  stays_agreed moves w k a own = by_ends a.ends
+      → AreLineMoves Whole moves w → losses moves ≡ 0 → AreInAgreement (run Whole moves w)
+  stays_agreed moves w k a own none = by_ends a.ends
     where
       by_moves : (moves : List Move) → AreReleased w.user.end w.network.end
-          → AreOwnOr203 Whole moves w → AreInAgreement (run Whole moves w)
-      by_moves [] r own = record { empty = a.empty; ends = inl r }
-      by_moves (move ∷ moves) r own =
+          → AreLineMoves Whole moves w → losses moves ≡ 0 → AreInAgreement (run Whole moves w)
+      by_moves [] r own none = record { empty = a.empty; ends = inl r }
+      by_moves (move ∷ moves) r own none =
           absurd (shut move.side move.event w.user w.network w.to_user w.to_network a.to_user
-          a.to_network k.facts.have r own.0)
+          a.to_network k.facts.have r own.0 (omega (arith, none)))
 
       by_ends : AreReleased w.user.end w.network.end
           ⊎ ((w.user.end.state ≡ MultipleFrameEstablished)
           × (w.network.end.state ≡ MultipleFrameEstablished))
           → AreInAgreement (run Whole moves w)
-      by_ends (inl r) = by_moves moves r own
-      by_ends (inr in_7) = calm_stays moves w k (settled_is_calm w k a.empty in_7.0 in_7.1) own
+      by_ends (inl r) = by_moves moves r own none
+      by_ends (inr in_7) =
+          calm_stays moves w k (settled_is_calm w k a.empty in_7.0 in_7.1) own none
 
-  -- at most n own moves are possible, and lead to agreement
-  left_after : (n : ℕ) (move : Move) (w : World) → Returns n w → IsOwn Whole move w
-      → Returns (n - 1) (world_after w (happens Whole move w))
-  left_after n move w r one = record {
-    few = λ moves own. let few = r.few (move ∷ moves) (one, own) in omega (arith, few);
-    agreed = λ moves own rests. r.agreed (move ∷ moves) (one, own) rests;
+  -- an own move is a line move, not early, and overtakes nothing
+  record IsPlain (s : Side) (event : PairEvent) (w : World) : Type 0 where
+    line_move : IsLineMove Whole (record { side = s; event = event }) w
+    lossless : one_if (is_loss event) ≡ 0
+    timely : one_if (is_early event w) ≡ 0
+    first : overtaken_by event (view_of s w) ≡ 0
+
+  none_in_8 : (state : State) (l : List Flight) → l ≡ [] → if_in_8 state (messages_in l) ≡ 0
+  none_in_8 TimerRecovery l none = ap messages_in none
+  none_in_8 state l none = refl
+
+  empty_line : (a b : List Flight) → (is_empty a && is_empty b) ≡ true → (a ≡ []) × (b ≡ [])
+  empty_line [] [] all = (refl, refl)
+  empty_line [] (f ∷ fs) all = cc
+  empty_line (f ∷ fs) b all = cc
+
+  own_is_plain : (s : Side) (event : PairEvent) (w : World)
+      → IsOwn Whole (record { side = s; event = event }) w → IsPlain s event w
+  own_is_plain s Deliver w own = record {
+    line_move = record { of_line = refl; admitted = own.admitted };
+    lossless = refl;
+    timely = refl;
+    first = refl;
   }
-
-  -- a move that is no own move is T203 while the ends are in step
-  in_step_now : (event : PairEvent) (w : World) → is_due event w ≡ false
-      → is_due_or_203 event w ≡ true → are_in_step w ≡ true
-  in_step_now Expire203 w not_own due = subst (λ b. (b || are_in_step w) ≡ true) not_own due
-  in_step_now Deliver w not_own due = cc
-  in_step_now Expire200 w not_own due = let off = not_own in let on = due in cc
-  in_step_now event w not_own due = cc
-
-  reaches : (moves : List Move) (n : ℕ) (w : World) → Returns n w → Knows w → n ≤ length moves
-      → AreOwnOr203 Whole moves w → AreInAgreement (run Whole moves w)
-  reaches [] n w r k le own =
-      stays_agreed [] w k (settled w (r.agreed [] tt
-      (λ move one. let few =
-      r.few (move ∷ []) (one, tt) in absurd (omega (arith, few, le))))) tt
-  reaches (move ∷ moves) n w r k le own =
-      by_due (is_due move.event w) refl (λ left. reaches moves (n - 1)
-      (world_after w (happens Whole move w)) left (knows_after move w k) (omega (arith, le))
-      own.1)
+  own_is_plain s Expire200 w own = record {
+    line_move = record { of_line = refl; admitted = own.admitted };
+    lossless = refl;
+    timely = ap (λ b. one_if (not b)) own.due;
+    first = by_side s (empty_line w.to_user w.to_network own.due);
+  }
     where
-      by_due : (b : Bool) → is_due move.event w ≡ b
-          → (Returns (n - 1) (world_after w (happens Whole move w))
-          → AreInAgreement (run Whole (move ∷ moves) w))
-          → AreInAgreement (run Whole (move ∷ moves) w)
-      by_due true due rest =
-          rest (left_after n move w r (record { due = due; admitted = own.0.admitted }))
-      by_due false not_own rest =
-          calm_stays (move ∷ moves) w k
-          (in_step_is_calm w k.preserved (in_step_now move.event w not_own own.0.due)) own
+      by_side : (side : Side) → (w.to_user ≡ []) × (w.to_network ≡ [])
+          → overtaken_by Expire200 (view_of side w) ≡ 0
+      by_side side.User none = none_in_8 w.user.end.state w.to_network none.1
+      by_side side.Network none = none_in_8 w.network.end.state w.to_user none.0
+  own_is_plain s Expire203 w own = record {
+    line_move = record { of_line = refl; admitted = own.admitted };
+    lossless = refl;
+    timely = ap (λ b. one_if (not b)) own.due;
+    first = refl;
+  }
+  own_is_plain s event w own = let due = own.due in cc
+
+  module _ (c : ℕ) where
+    -- n moves, c for each early timer, and one for each overtaken message
+    record Bounds (n : ℕ) (w : World) : Type 0 where
+      few : (moves : List Move) → AreLineMoves Whole moves w → losses moves ≡ 0
+          → length moves ≤ n + earlies Whole moves w * c + overtaken Whole moves w
+      agreed : (moves : List Move) → AreLineMoves Whole moves w → Rests Whole (run Whole moves w)
+          → AreAgreed (run Whole moves w)
+
+    abbrev after_one : ℕ → Move → World → ℕ
+    after_one n move w =
+        n + one_if (is_early move.event w) * c + overtaken_by move.event (view_of move.side w)
+
+    bounds_after : (n : ℕ) (move : Move) (w : World) → Bounds n w → IsLineMove Whole move w
+        → one_if (is_loss move.event) ≡ 0
+        → (1 ≤ after_one n move w)
+        × Bounds (after_one n move w - 1) (world_after w (happens Whole move w))
+    bounds_after n move w b one lossless = (
+      (let few = b.few (move ∷ []) (one, tt) (omega (arith, lossless)) in omega (arith, few)),
+      record {
+        few = λ moves own none.
+            let few = b.few (move ∷ moves) (one, own) (omega (arith, lossless, none)) in
+            omega (arith, few);
+        agreed = λ moves own rests. b.agreed (move ∷ moves) (one, own) rests;
+      },
+    )
+
+    not_in_step : (early step : Bool) → step ≡ false → (early && not step) ≡ early
+    not_in_step true false off = refl
+    not_in_step false step off = refl
+    not_in_step true true off = cc
+
+    reaches : (moves : List Move) (n : ℕ) (w : World) → Bounds n w → Knows w
+        → AreLineMoves Whole moves w → losses moves ≡ 0
+        → n + earlies_out_of_step Whole moves w * c + overtaken Whole moves w ≤ length moves
+        → AreInAgreement (run Whole moves w)
+    reaches [] n w b k own none le =
+        stays_agreed [] w k (settled w (b.agreed [] tt (λ move one.
+        let p = own_is_plain move.side move.event w one in
+        let few = b.few (move ∷ []) (p.line_move, tt) (let lossless = p.lossless in
+        omega (arith, lossless)) in
+        let timely = p.timely in
+        let first = p.first in
+        absurd (none_left (one_if (is_early move.event w))
+        (overtaken_by move.event (view_of move.side w)) n timely first
+        (omega (arith, few)) (omega (arith, le)))))) tt none
+      where
+        none_left : (early late n : ℕ) → early ≡ 0 → late ≡ 0 → 1 ≤ n + early * c + late
+            → n ≤ 0 → ⊥
+        none_left zero late n timely first few le = omega (arith, first, few, le)
+        none_left (suc early) late n timely first few le = omega (arith, timely)
+    reaches (move ∷ moves) n w b k own none le =
+        by_step (are_in_step w) refl (λ left few.
+        reaches moves (after_one n move w - 1) (world_after w (happens Whole move w)) left
+        (knows_after move w k) own.1 (omega (arith, none)) few)
+      where
+        by_step : (b : Bool) → are_in_step w ≡ b
+            → (Bounds (after_one n move w - 1) (world_after w (happens Whole move w))
+            → (after_one n move w - 1)
+            + earlies_out_of_step Whole moves (world_after w (happens Whole move w)) * c
+            + overtaken Whole moves (world_after w (happens Whole move w)) ≤ length moves
+            → AreInAgreement (run Whole (move ∷ moves) w))
+            → AreInAgreement (run Whole (move ∷ moves) w)
+        by_step true step rest =
+            calm_stays (move ∷ moves) w k (in_step_is_calm w k.preserved step) own none
+        by_step false step rest =
+            let left = bounds_after n move w b own.0 (omega (arith, none)) in
+            let some = left.0 in
+            let same : one_if (is_out_of_step move.event w) ≡ one_if (is_early move.event w) =
+            ap one_if (not_in_step (is_early move.event w) (are_in_step w) step) in
+            let counted : n + (one_if (is_early move.event w)
+            + earlies_out_of_step Whole moves (world_after w (happens Whole move w))) * c
+            + overtaken Whole (move ∷ moves) w ≤ length (move ∷ moves) =
+            subst (λ j. n + (j
+            + earlies_out_of_step Whole moves (world_after w (happens Whole move w))) * c
+            + overtaken Whole (move ∷ moves) w ≤ length (move ∷ moves)) same le in
+            rest left.1 (omega (arith, some, counted))
 
   -- both claims, on whole numbers
   pub record Kept (w : World) : Type 0 where
-    pub reached : (moves : List Move) → AreOwnOr203 Whole moves w
-        → most_moves_from N w ≤ length moves
+    pub reached : (moves : List Move) → AreLineMoves Whole moves w → losses moves ≡ 0
+        → most_line_moves 0 (earlies_out_of_step Whole moves w) (overtaken Whole moves w) N w
+        ≤ length moves
         → AreInAgreement (run Whole moves w)
-    pub kept : AreSettled w → (moves : List Move) → AreOwnOr203 Whole moves w
+    pub kept : AreSettled w → (moves : List Move) → AreLineMoves Whole moves w → losses moves ≡ 0
         → AreInAgreement (run Whole moves w)
     pub in_step : w.user.end.state ≡ MultipleFrameEstablished
         → w.network.end.state ≡ MultipleFrameEstablished → w.user.end.t200 ≡ false
         → w.network.end.t200 ≡ false → are_in_step w ≡ true
 
-  pub world_keeps : (w : World) → Knows w → WorldComesBack Whole N w → Kept w
+  pub world_keeps : (w : World) → Knows w → ComesBackDespiteTimers Whole N w → Kept w
   world_keeps w k back = record {
-    reached =
-        λ moves own le. reaches moves (most_moves_from N w) w
-        (record { few = back.few; agreed = back.agreed }) k le own;
-    kept = λ a moves own. stays_agreed moves w k a own;
+    reached = λ moves own none le.
+        reaches (6 * left w + 6 * N + 24) moves (most_moves_from N w) w
+        (record {
+          few = λ moves own none.
+              let few = back.few moves own in
+              let lossless : length moves
+              ≤ most_line_moves 0 (earlies Whole moves w) (overtaken Whole moves w) N w =
+              subst (λ j. length moves
+              ≤ most_line_moves j (earlies Whole moves w) (overtaken Whole moves w) N w) none few in
+              omega (arith, lossless);
+          agreed = back.agreed;
+        }) k own none (omega (arith, le));
+    kept = λ a moves own none. stays_agreed moves w k a own none;
     in_step = idle_in_step w k.facts.holds k.preserved k.facts.settled;
   }

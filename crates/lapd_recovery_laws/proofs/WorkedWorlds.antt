@@ -9,10 +9,10 @@ use Rattle.lapd_pair_laws.specs.Worked.{new_pair, sabme_lost, busy}
 use Rattle.lapd_recovery_laws.specs.AfterOutage.{IsAfterOutage, IsHeldUp}
 use Rattle.lapd_recovery_laws.specs.EveryWorld.{IsFreeWorld}
 use Rattle.lapd_recovery_laws.specs.FewLosses.{OutlastLosses}
-use Rattle.lapd_recovery_laws.specs.KeptAgreement.{AreOwnOr203}
+use Rattle.lapd_recovery_laws.specs.KeptAgreement.{earlies_out_of_step}
 use Rattle.lapd_recovery_laws.specs.Losses.{AreOwnOrLosses}
 use Rattle.lapd_recovery_laws.specs.WantedLine.{AreWanting, IsWanted}
-use Rattle.lapd_recovery_laws.specs.Recovered.{outcome_of, outcome_of_deliveries, outcome_from, first_of_three_lost, poll_meets_sabme, both_sabmes_lost, network_restarts, restarts_with_one_sent, release_waits, sabmes_lost, disc_lost, release_unheard, disc_meets_sabme, dm_sent, longest, both_in_7, both_in_4, held_up, IsBusy, message_lost, three_polls_lost, two_polls_lost, outcome_despite, outcome_of_few, polls_cross, polled_on, all_due, agreed_after, least_pair, all_admitted, outcome_of_least, eight_wait, t200_beside_frames, too_many_t200, network_sabme_lost, t203_before_t200, too_many_t203}
+use Rattle.lapd_recovery_laws.specs.Recovered.{outcome_of, outcome_of_deliveries, outcome_from, first_of_three_lost, poll_meets_sabme, both_sabmes_lost, network_restarts, restarts_with_one_sent, release_waits, sabmes_lost, disc_lost, release_unheard, disc_meets_sabme, dm_sent, longest, both_in_7, both_in_4, held_up, IsBusy, message_lost, three_polls_lost, two_polls_lost, outcome_despite, outcome_of_few, polls_cross, polled_on, agreed_after, least_pair, all_admitted, outcome_of_least, eight_wait, t200_beside_frames, too_many_t200, network_sabme_lost, t203_before_t200, too_many_t203}
 use Rattle.lapd_pair_laws.proofs.ComputedRun.{computed_run}
 
 pub restart_back : (r : Reading) → outcome_of r (run r network_restarts (new_pair 1 Enquiry)) ≡ both_in_7 11 0 0
@@ -147,15 +147,24 @@ unfolding computed_run
 dm_gone Whole = (record { mine = record { not_releasing = λ is. cc; none_pending = λ is. cc }; its = record { not_releasing = λ is. cc; none_pending = λ is. refl }; either = inr (inr (refl, omega arith)) }, refl)
 dm_gone Tagged = (record { mine = record { not_releasing = λ is. cc; none_pending = λ is. cc }; its = record { not_releasing = λ is. cc; none_pending = λ is. refl }; either = inr (inr (refl, omega arith)) }, refl)
 
-pub crossing_polls : (r : Reading) → AreOwnOr203 r polls_cross (run r establishing (new_pair 1 Enquiry)) × (outcome_despite r polls_cross (run r establishing (new_pair 1 Enquiry)) ≡ both_in_7 6 0 0)
+pub crossing_polls : (r : Reading)
+    → (all_admitted r polls_cross (run r establishing (new_pair 1 Enquiry)) ≡ true)
+    × (earlies_out_of_step r polls_cross (run r establishing (new_pair 1 Enquiry)) ≡ 0)
+    × (outcome_despite r polls_cross (run r establishing (new_pair 1 Enquiry)) ≡ both_in_7 6 0 0)
 unfolding computed_run
-crossing_polls Whole = ((record { due = refl; admitted = refl }, (record { due = refl; admitted = refl }, (record { due = refl; admitted = refl }, (record { due = refl; admitted = refl }, (record { due = refl; admitted = refl }, (record { due = refl; admitted = refl }, tt)))))), refl)
-crossing_polls Tagged = ((record { due = refl; admitted = refl }, (record { due = refl; admitted = refl }, (record { due = refl; admitted = refl }, (record { due = refl; admitted = refl }, (record { due = refl; admitted = refl }, (record { due = refl; admitted = refl }, tt)))))), refl)
+crossing_polls Whole = (refl, refl, refl)
+crossing_polls Tagged = (refl, refl, refl)
 
-pub polls_after_restart : (r : Reading) → (all_due r (polled_on r (run r network_restarts (new_pair 1 Enquiry))) (run r network_restarts (new_pair 1 Enquiry)) ≡ true) × (outcome_despite r (polled_on r (run r network_restarts (new_pair 1 Enquiry))) (run r network_restarts (new_pair 1 Enquiry)) ≡ agreed_after 35)
+pub polls_after_restart : (r : Reading)
+    → (all_admitted r (polled_on r (run r network_restarts (new_pair 1 Enquiry)))
+    (run r network_restarts (new_pair 1 Enquiry)) ≡ true)
+    × (earlies_out_of_step r (polled_on r (run r network_restarts (new_pair 1 Enquiry)))
+    (run r network_restarts (new_pair 1 Enquiry)) ≡ 0)
+    × (outcome_despite r (polled_on r (run r network_restarts (new_pair 1 Enquiry)))
+    (run r network_restarts (new_pair 1 Enquiry)) ≡ agreed_after 35)
 unfolding computed_run
-polls_after_restart Whole = (refl, refl)
-polls_after_restart Tagged = (refl, refl)
+polls_after_restart Whole = (refl, refl, refl)
+polls_after_restart Tagged = (refl, refl, refl)
 
 pub t200_beside : (r : Reading) → (all_admitted r t200_beside_frames (run r eight_wait least_pair) ≡ true) × (outcome_of_least r t200_beside_frames (run r eight_wait least_pair) ≡ too_many_t200)
 unfolding computed_run

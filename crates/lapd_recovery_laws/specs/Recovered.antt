@@ -12,7 +12,6 @@ use Rattle.lapd_pair_laws.specs.World.{World, new_world, world_after, happens, r
 use Rattle.lapd_recovery_laws.specs.Deliveries.{most_deliveries}
 use Rattle.lapd_recovery_laws.specs.EveryWorld.{most_moves_from}
 use Rattle.lapd_recovery_laws.specs.FewLosses.{most_open_moves}
-use Rattle.lapd_recovery_laws.specs.KeptAgreement.{is_due_or_203}
 use Rattle.lapd_recovery_laws.specs.Losses.{losses, most_moves_despite}
 use Rattle.lapd_recovery_laws.specs.Own.{IsFree, first_own, most_own_moves, then_on, recovering, tried}
 
@@ -213,12 +212,6 @@ polls_cross = of_user Expire203 ∷ of_network Expire203 ∷ of_network Deliver 
 abbrev pub polled_on : Reading → World → List Move
 polled_on r w = recovering r 40 w
     ++ repeated 8 (of_user Expire203 ∷ of_network Deliver ∷ of_user Deliver ∷ [])
-
--- whether each of these moves is an own move, or T203 while the ends are in step
-abbrev pub all_due : Reading → List Move → World → Bool
-all_due r [] w = true
-all_due r (move ∷ moves) w = is_due_or_203 move.event w && is_ok (happens r move w)
-    && all_due r moves (world_after w (happens r move w))
 
 -- more moves than the bound, and no own move is possible
 abbrev pub agreed_after : ℕ → RecoveryOutcome

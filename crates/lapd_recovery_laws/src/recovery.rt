@@ -15,11 +15,11 @@ ghost use Rattle.lapd_recovery_laws.specs.EveryWorld.{IsFreeWorld, WorldComesBac
 ghost use Rattle.lapd_recovery_laws.specs.Deliveries.{RunsEmpty};
 ghost use Rattle.lapd_recovery_laws.specs.EarlyTimers.{ComesBackDespiteTimers};
 ghost use Rattle.lapd_recovery_laws.specs.FewLosses.{t200s, most_t200s, OutlastLosses, KeepsAll};
-ghost use Rattle.lapd_recovery_laws.specs.KeptAgreement.{AreOwnOr203, KeepsAgreement};
+ghost use Rattle.lapd_recovery_laws.specs.KeptAgreement.{earlies_out_of_step, KeepsAgreement};
 ghost use Rattle.lapd_recovery_laws.specs.LoneLine.{IsLoneLine, ComesUpAnew};
 ghost use Rattle.lapd_recovery_laws.specs.Losses.{ComesBackDespite, AreOwnOrLosses};
 ghost use Rattle.lapd_recovery_laws.specs.OpenLine.{IsOpenLine, ComesUp};
-ghost use Rattle.lapd_recovery_laws.specs.Recovered.{outcome_of, outcome_of_deliveries, outcome_from, first_of_three_lost, poll_meets_sabme, both_sabmes_lost, network_restarts, restarts_with_one_sent, release_waits, sabmes_lost, disc_lost, release_unheard, disc_meets_sabme, dm_sent, longest, both_in_7, both_in_4, held_up, IsBusy, message_lost, three_polls_lost, two_polls_lost, outcome_despite, outcome_of_few, polls_cross, polled_on, all_due, agreed_after, least_pair, all_admitted, outcome_of_least, eight_wait, t200_beside_frames, too_many_t200, network_sabme_lost, t203_before_t200, too_many_t203};
+ghost use Rattle.lapd_recovery_laws.specs.Recovered.{outcome_of, outcome_of_deliveries, outcome_from, first_of_three_lost, poll_meets_sabme, both_sabmes_lost, network_restarts, restarts_with_one_sent, release_waits, sabmes_lost, disc_lost, release_unheard, disc_meets_sabme, dm_sent, longest, both_in_7, both_in_4, held_up, IsBusy, message_lost, three_polls_lost, two_polls_lost, outcome_despite, outcome_of_few, polls_cross, polled_on, agreed_after, least_pair, all_admitted, outcome_of_least, eight_wait, t200_beside_frames, too_many_t200, network_sabme_lost, t203_before_t200, too_many_t203};
 ghost use Rattle.lapd_recovery_laws.specs.ReleasedLine.{IsReleasedLine, ComesDown};
 ghost use Rattle.lapd_recovery_laws.specs.Timers.{HaveTimersOfStates};
 ghost use Rattle.lapd_recovery_laws.specs.Untimely.{untimely, outcome_of_line, t203_counted, message_sent, t200_overtakes, outcome_of_open, eight_given, t200_beside_each, seven_idle_polls};
@@ -115,12 +115,15 @@ pub fn recovery_is_computed()
         (run r dm_sent (new_pair 1 Enquiry)).network.end
         × (outcome_from r (run r dm_sent (new_pair 1 Enquiry)) ≡ both_in_4 1) }
     ensures crossing_polls { (r : Reading)
-        → AreOwnOr203 r polls_cross (run r establishing (new_pair 1 Enquiry))
+        → (all_admitted r polls_cross (run r establishing (new_pair 1 Enquiry)) ≡ true)
+        × (earlies_out_of_step r polls_cross (run r establishing (new_pair 1 Enquiry)) ≡ 0)
         × (outcome_despite r polls_cross (run r establishing (new_pair 1 Enquiry))
         ≡ both_in_7 6 0 0) }
     ensures polls_after_restart { (r : Reading)
-        → (all_due r (polled_on r (run r network_restarts (new_pair 1 Enquiry)))
+        → (all_admitted r (polled_on r (run r network_restarts (new_pair 1 Enquiry)))
         (run r network_restarts (new_pair 1 Enquiry)) ≡ true)
+        × (earlies_out_of_step r (polled_on r (run r network_restarts (new_pair 1 Enquiry)))
+        (run r network_restarts (new_pair 1 Enquiry)) ≡ 0)
         × (outcome_despite r (polled_on r (run r network_restarts (new_pair 1 Enquiry)))
         (run r network_restarts (new_pair 1 Enquiry)) ≡ agreed_after 35) }
     ensures t200_beside_frames { (r : Reading)
@@ -228,12 +231,15 @@ pub fn every_world_comes_back()
         → WorldComesBack r n200 (run r moves (new_world user network)) }
 {}
 
-/// Ends that agree stay in agreement if T203 expires in state 7 at both. Besides the own moves, it
-/// expires at any moment while the ends are in step: no message is left, and both ends are in state
-/// 7, or in state 8 with a poll or the response to it in transit. After as many moves as
-/// [`every_world_comes_back`] counts at most, or more, in any order, no message is left, and both
-/// ends are in state 4, or both in states 7 and 8 with equal numbers. The same holds after any such
-/// moves from ends that agree. The premises are those of that law.
+/// Ends that agree stay in agreement whenever timers expire, if no frame is lost. Moves are
+/// deliveries, T200 wherever it runs, but not while a command with P=1 of its end, or the response to
+/// it, is in transit, and T203 wherever it runs. After as many moves as
+/// [`every_world_comes_back_despite_early_timers`] counts at most, or more, in any order, no message
+/// is left, and both ends are in state 4, or both in states 7 and 8 with equal numbers. Of the early
+/// timers it counts those alone that expire while the ends are not in step: in step no message is
+/// left, and both ends are in state 7, or in state 8 with a poll or the response to it in transit. So
+/// two ends in state 7 with nothing to do may poll for ever. The same holds after any such moves from
+/// ends that agree. The premises are those of that law.
 pub fn every_agreement_is_kept()
     ensures { (r : Reading) (n200 : ℕ) → 1 ≤ n200 → (user network : Parameters)
         → user.k ≤ 127 → network.k ≤ 127 → 1 ≤ user.k → 1 ≤ network.k → (moves : List Move)
