@@ -6,11 +6,11 @@
 //! lines. [`print_lines`] reads lines of any [`LineForm`] and prints the frames that a
 //! [`FrameStyle`] requests, and [`decode_capture`] those of a capture of `lapd_capture`. If links
 //! are followed, which [`follow_capture`] does for a capture, the remarks of a listener of
-//! `lapd_follow` are printed behind each frame, and a table of each link at the end. With [`Layout::Drawn`] the
-//! frames are drawn as a ladder, or as a picture between
-//! [`PICTURE_BEGIN`] and [`PICTURE_END`], as a page between
-//! [`PAGE_BEGIN`] and [`PAGE_END`], or as the records of a pcap file. A [`FrameDrawer`] draws the same ladder of the frames of
-//! a line, when they are sent or received.
+//! `lapd_follow` are printed behind each frame, and a table of each link at the end. With
+//! [`Layout::Drawn`] the frames are drawn as a ladder, as a picture between [`PICTURE_BEGIN`] and
+//! [`PICTURE_END`], as a page between [`PAGE_BEGIN`] and [`PAGE_END`], or as the records of a pcap
+//! file. A [`FrameDrawer`] draws the same ladder of the frames of a line, when they are sent or
+//! received.
 #![tactic(auto)]
 
 mod any_sapi;
