@@ -196,8 +196,8 @@ pub fn every_line_comes_back()
 {}
 
 /// After an outage a link that one end holds up, and that neither end releases, stays up, whenever
-/// timers expire: when no own move is possible any more, both ends are in state 7 with equal numbers.
-/// The premises are those of [`every_line_comes_back`], but T200 and T203 expire as in
+/// timers expire: when no own move is possible any more, both ends are in state 7 with equal
+/// numbers. The premises are those of [`every_line_comes_back`], but T200 and T203 expire as in
 /// [`every_wanted_line_comes_up`].
 pub fn every_held_line_stays_up()
     ensures { (r : Reading) (n200 : ℕ) → 1 ≤ n200 → (user network : Parameters)
@@ -232,14 +232,14 @@ pub fn every_world_comes_back()
 {}
 
 /// Ends that agree stay in agreement whenever timers expire, if no frame is lost. Moves are
-/// deliveries, T200 wherever it runs, but not while a command with P=1 of its end, or the response to
-/// it, is in transit, and T203 wherever it runs. After as many moves as
-/// [`every_world_comes_back_despite_early_timers`] counts at most, or more, in any order, no message
-/// is left, and both ends are in state 4, or both in states 7 and 8 with equal numbers. Of the early
-/// timers it counts those alone that expire while the ends are not in step: in step no message is
-/// left, and both ends are in state 7, or in state 8 with a poll or the response to it in transit. So
-/// two ends in state 7 with nothing to do may poll for ever. The same holds after any such moves from
-/// ends that agree. The premises are those of that law.
+/// deliveries, T200 wherever it runs, but not while a command with P=1 of its end, or the response
+/// to it, is in transit, and T203 wherever it runs. After as many moves as
+/// [`every_world_comes_back_despite_early_timers`] counts at most, or more, in any order, no
+/// message is left, and both ends are in state 4, or both in states 7 and 8 with equal numbers. Of
+/// the early timers it counts those alone that expire while the ends are not in step: in step no
+/// message is left, and both ends are in state 7, or in state 8 with a poll or the response to it
+/// in transit. So two ends in state 7 with nothing to do may poll for ever. The same holds after
+/// any such moves from ends that agree. The premises are those of that law.
 pub fn every_agreement_is_kept()
     ensures { (r : Reading) (n200 : ℕ) → 1 ≤ n200 → (user network : Parameters)
         → user.k ≤ 127 → network.k ≤ 127 → 1 ≤ user.k → 1 ≤ network.k → (moves : List Move)
@@ -248,12 +248,12 @@ pub fn every_agreement_is_kept()
 {}
 
 /// A link that one end wants and neither end releases comes up, with frames in transit or not, and
-/// whenever timers expire: when no own move is possible any more, both ends are in state 7 with equal
-/// numbers. An end wants the link in states 7 and 8, and in state 5 with a retransmission left. No end
-/// is in state 6 or has a release pending, and no DM is in transit. Moves are deliveries, T200 wherever
-/// it runs, but not while a command with P=1 of its end, or the response to it, is in transit, and T203
-/// wherever it runs, in any order; no frame is lost. The other premises are those of
-/// [`every_world_comes_back_despite_early_timers`], which bounds the moves.
+/// whenever timers expire: when no own move is possible any more, both ends are in state 7 with
+/// equal numbers. An end wants the link in states 7 and 8, and in state 5 with a retransmission
+/// left. No end is in state 6 or has a release pending, and no DM is in transit. Moves are
+/// deliveries, T200 wherever it runs, but not while a command with P=1 of its end, or the response
+/// to it, is in transit, and T203 wherever it runs, in any order; no frame is lost. The other
+/// premises are those of [`every_world_comes_back_despite_early_timers`], which bounds the moves.
 pub fn every_wanted_line_comes_up()
     ensures { (r : Reading) (n200 : ℕ) → 1 ≤ n200 → (user network : Parameters)
         → user.k ≤ 127 → network.k ≤ 127 → 1 ≤ user.k → 1 ≤ network.k → (moves : List Move)
@@ -275,14 +275,14 @@ pub fn every_world_comes_back_despite_losses()
         → ComesBackDespite r n200 (run r moves (new_world user network)) }
 {}
 
-/// Every world recovers by itself although timers do not wait for each other. The premises are those
-/// of [`every_world_comes_back`], but besides own moves and losses a timer may expire early: T200
-/// beside frames in transit wherever it runs, unless a command with P=1 of its end, or the response
-/// to it, is in transit; and T203 wherever it runs. The moves, in any order, are at most those of
-/// [`every_world_comes_back_despite_losses`] and, for each early timer, six per message left at the
-/// start, six per retransmission that N200 allows, and 24 more. If T200 expires in state 8, each
-/// message that is still in transit from this end counts one more. When no own move is possible any
-/// more, both ends agree, however many timers were early.
+/// Every world recovers by itself although timers do not wait for each other. The premises are
+/// those of [`every_world_comes_back`], but besides own moves and losses a timer may expire early:
+/// T200 beside frames in transit wherever it runs, unless a command with P=1 of its end, or the
+/// response to it, is in transit; and T203 wherever it runs. The moves, in any order, are at most
+/// those of [`every_world_comes_back_despite_losses`] and, for each early timer, six per message
+/// left at the start, six per retransmission that N200 allows, and 24 more. If T200 expires in
+/// state 8, each message that is still in transit from this end counts one more. When no own move
+/// is possible any more, both ends agree, however many timers were early.
 pub fn every_world_comes_back_despite_early_timers()
     ensures { (r : Reading) (n200 : ℕ) → 1 ≤ n200 → (user network : Parameters)
         → user.k ≤ 127 → network.k ≤ 127 → 1 ≤ user.k → 1 ≤ network.k → (moves : List Move)
@@ -292,11 +292,12 @@ pub fn every_world_comes_back_despite_early_timers()
 
 /// Runs with early timers are bounded as expected, on whole numbers and on tags. The first two pass
 /// the bound of own moves, and keep the one that counts early timers: T200 expires beside messages
-/// in transit, nine times; and T203 expires before T200 of the peer, four times. In the third a poll
-/// is lost, and T200 expires in state 8 while the message before the poll is still in transit. The
-/// first begins in a world that is wanted, and brings the link up. In the last two both ends are in states 7 and 8. T200 expires beside each of eight messages in transit,
-/// within the bound of few losses, which counts no T200; and T203 expires seven times with nothing to
-/// do, which passes that bound unless it counts them.
+/// in transit, nine times; and T203 expires before T200 of the peer, four times. In the third a
+/// poll is lost, and T200 expires in state 8 while the message before the poll is still in transit.
+/// The first begins in a world that is wanted, and brings the link up. In the last two both ends
+/// are in states 7 and 8. T200 expires beside each of eight messages in transit, within the bound
+/// of few losses, which counts no T200; and T203 expires seven times with nothing to do, which
+/// passes that bound unless it counts them.
 pub fn early_timers_are_computed()
     ensures t200_counts { (r : Reading)
         → (untimely r t200_beside_frames (run r eight_wait least_pair)
@@ -330,21 +331,21 @@ pub fn early_timers_are_computed()
         ≡ both_in_7 21 0 0) }
 {}
 
-/// Few losses drop no message, and T200 expires seldom, beside frames in transit or not. Suppose that
-/// both ends are in state 7 or 8 and neither is own receiver busy, with frames in transit or not.
-/// Fewer frames are lost than each end retransmits at most, and in state 8 fewer than its
-/// retransmissions that are left. T200 may expire wherever it runs, but not while a command with P=1
-/// of its end, or the response to it, is in transit; and T203 wherever it runs. Then, after
-/// deliveries, losses and expired timers in any order, both ends are in state 7 or 8, and no message
-/// was dropped. T200 expires at most two times per message left, and two more, as often again for
-/// each frame that may be lost, and once per frame in transit. The moves are at most two per frame in
-/// transit, three per message left, and four more; one per message left, and one more, for each frame
-/// that may be lost; and three per message left, and seven more, for each T200 of these and each
-/// T203. When no own move is possible any more, both ends are in state 7 with equal numbers, and each
-/// message that was not dropped before was received and acknowledged. Own moves and losses are at
-/// most two per frame in transit, three per message left, and 12 more, and for each frame that may be
-/// lost, four per message left and 15 more, whatever N200 is. The run starts in a new world, on whole
-/// numbers or on tags, with windows of 1 to 127 and either `Recovery`.
+/// Few losses drop no message, and T200 expires seldom, beside frames in transit or not. Suppose
+/// that both ends are in state 7 or 8 and neither is own receiver busy, with frames in transit or
+/// not. Fewer frames are lost than each end retransmits at most, and in state 8 fewer than its
+/// retransmissions that are left. T200 may expire wherever it runs, but not while a command with
+/// P=1 of its end, or the response to it, is in transit; and T203 wherever it runs. Then, after
+/// deliveries, losses and expired timers in any order, both ends are in state 7 or 8, and no
+/// message was dropped. T200 expires at most two times per message left, and two more, as often
+/// again for each frame that may be lost, and once per frame in transit. The moves are at most two
+/// per frame in transit, three per message left, and four more; one per message left, and one more,
+/// for each frame that may be lost; and three per message left, and seven more, for each T200 of
+/// these and each T203. When no own move is possible any more, both ends are in state 7 with equal
+/// numbers, and each message that was not dropped before was received and acknowledged. Own moves
+/// and losses are at most two per frame in transit, three per message left, and 12 more, and for
+/// each frame that may be lost, four per message left and 15 more, whatever N200 is. The run starts
+/// in a new world, on whole numbers or on tags, with windows of 1 to 127 and either `Recovery`.
 pub fn few_losses_drop_nothing()
     ensures { (r : Reading) (user network : Parameters)
         → user.k ≤ 127 → network.k ≤ 127 → 1 ≤ user.k → 1 ≤ network.k → (moves : List Move)
