@@ -12,8 +12,8 @@ use std::alloc::AllocError;
 /// 16 of them precede the frame.
 const MOST: usize = 262_128;
 
-/// Appends the record of octets in this packet, of this sender if it is known, as a pcap file of link
-/// type 177 in big endian has it, with microseconds.
+/// Appends the record of octets in this packet, of this sender if it is known, as a pcap file of
+/// link type 177 in big endian has it, with microseconds.
 ///
 /// # Errors
 ///

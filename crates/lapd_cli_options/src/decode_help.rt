@@ -5,8 +5,9 @@ pub const DECODE: &str = "\
 `lapd --help` describes scripts and HEX, and lists the faults F1 to F7 and the exit statuses.
 
 FILE is a capture or a text, by its first octets; a text that does not begin as a script is read
-as with --loose. Without FILE and --pcap the text is standard input. Several files are decoded one by one, each after a line ==> FILE <==. The exit status is
-that of the first file that can't be read.
+as with --loose. Without FILE and --pcap the text is standard input. Several files are decoded one
+by one, each after a line ==> FILE <==. The exit status is that of the first file that can't be
+read.
 
 Lines of a text:
   SIDE HEX  this side, user or net, sent these octets

@@ -1,4 +1,5 @@
-//! Lines of Cisco's `debug isdn q921`: a frame as digits, or as its name and the values of its fields.
+//! Lines of Cisco's `debug isdn q921`: a frame as digits, or as its name and the values of its
+//! fields.
 
 use crate::text::{behind, is_hex_digit, number_at, without_spaces};
 use arrayvec::ArrayVec;
