@@ -1,6 +1,6 @@
 -- The call reference in a frame (Q.931 4.3), without its flag.
 use Rattle.std.specs.Prelude.{ℕ, List, Option, None, Some, Result, Ok, Err}
-use Rattle.lapd_frame.specs.declared.Side.TheVariants.{Network}
+use Rattle.lapd_frame.specs.declared.Side.TheVariants.{Network, User}
 use Rattle.lapd_frame.specs.declared.Sapi.{Sapi}
 use Rattle.lapd_frame.specs.declared.Sapi.TheVariants.{Call, Packet, Management}
 use Rattle.lapd_frame.specs.declared.Control.{Control}
@@ -37,6 +37,11 @@ abbrev pub call_of : Result Fields FrameFault → Option ℕ
 call_of (Err fault) = None
 call_of (Ok f) = call_by_control f.control f.address.sapi f.info
 
--- the call reference in these octets, which both sides read alike
+abbrev pub first_of : Option ℕ → Option ℕ → Option ℕ
+first_of None other = other
+first_of (Some call) other = Some call
+
+-- The call reference in these octets, if one side or the other sent them. I frames and UI frames are
+-- commands, so only one of them can have sent one (Q.921 3.3.2).
 abbrev pub call_in : List ℕ → Option ℕ
-call_in octets = call_of (frame_at Network octets)
+call_in octets = first_of (call_of (frame_at Network octets)) (call_of (frame_at User octets))

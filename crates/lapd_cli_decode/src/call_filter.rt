@@ -2,7 +2,7 @@
 
 ghost use Rattle.std.specs.Prelude.{◌≡◌, Some};
 ghost use Rattle.lapd_cli_values.specs.Filter.{is_requested};
-ghost use Rattle.lapd_cli_decode.specs.CallFilter.{call_by_control, call_by_sapi, call_in, call_of, reference_of, value_of};
+ghost use Rattle.lapd_cli_decode.specs.CallFilter.{call_by_control, call_by_sapi, call_in, call_of, first_of, reference_of, value_of};
 
 use lapd_cli_render::{CallMessage, CallReference};
 use lapd_frame::{Control, Frame, FrameFault, Sapi, Side};
@@ -27,11 +27,24 @@ fn is_call(call: u16, found: Option<u16>) -> bool
     }
 }
 
-/// The call reference in these octets, which both sides read alike.
+/// The call reference in these octets, if one side or the other sent them: only one of them can have
+/// sent an I frame or a UI frame, since these are commands.
 fn call_in(octets: &[u8]) -> Option<u16>
     ensures { result ≡ call_in octets.now }
 {
-    call_of(&lapd_frame::read(octets, Side::Network))
+    let by_network = call_of(&lapd_frame::read(octets, Side::Network));
+    let by_user = call_of(&lapd_frame::read(octets, Side::User));
+    first_of(by_network, by_user)
+}
+
+/// The first call reference, or the other one if it is absent.
+fn first_of(call: Option<u16>, other: Option<u16>) -> Option<u16>
+    ensures { result ≡ first_of call other }
+{
+    match call {
+        None => other,
+        Some(call) => Some(call),
+    }
 }
 
 /// The call reference in a frame.

@@ -25,6 +25,7 @@ fn preserves(rt: &HostRuntime, job: Job, text: &str) -> Result<(), Fail> {
         svg: None,
         html: None,
         write: None,
+        span: None,
         clock: Clock::Script,
         is_clock_open: false,
         json: false,

@@ -1,5 +1,5 @@
 -- Days of the Gregorian calendar.
-use Rattle.std.specs.Prelude.{ℕ, ◌+◌, ◌-◌, ◌*◌, ◌/◌, ◌%◌, ◌==◌, ◌&&◌, ◌||◌, not, if◌then◌else◌, Bool, true, false}
+use Rattle.std.specs.Prelude.{ℕ, ◌+◌, ◌-◌, ◌*◌, ◌/◌, ◌%◌, ◌==◌, ◌&&◌, ◌||◌, not, if◌then◌else◌, Bool}
 
 abbrev pub is_leap : ℕ → Bool
 is_leap year = ((year % 4 == 0) && not (year % 100 == 0)) || (year % 400 == 0)

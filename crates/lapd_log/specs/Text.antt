@@ -1,12 +1,13 @@
 -- Parts of a line of text.
-use Rattle.std.specs.Prelude.{ℕ, ◌==◌, ◌&&◌, ◌||◌, not, if◌then◌else◌, nat_eq, nat_le, Bool, List, [], ◌∷◌, length, take, drop, Option, Some, None}
-use Rattle.std.specs.List.{position_or_len, starts_with}
+use Rattle.std.specs.Prelude.{ℕ, ◌==◌, ◌&&◌, ◌||◌, not, if◌then◌else◌, nat_le, Bool, List, [], ◌∷◌, length, take, drop, Option, Some, None}
+use Rattle.std.specs.List.{position_or_len}
+use Rattle.std.specs.Str.{bytes_eq}
 use Rattle.lapd_cli_script.specs.Line.{parsed_number}
 
 -- the text behind the first occurrence of a word
 abbrev pub behind : List ℕ → List ℕ → Option (List ℕ)
 behind word [] = None
-behind word (octet ∷ octets) = if starts_with nat_eq (octet ∷ octets) word
+behind word (octet ∷ octets) = if bytes_eq (take (length word) (octet ∷ octets)) word
     then Some (drop (length word) (octet ∷ octets)) else behind word octets
 
 -- a decimal digit
