@@ -20,10 +20,10 @@ With --loose also, by the first of these forms that a line has:
                                 each
   0000  00 81 7f    TEXT        the same of Wireshark, hexdump -C or od -tx1
   00 81 7f                      HEX alone
-Lines of logs of Cisco (debug isdn q921), Osmocom and mISDN, lists such as 00-81-7f or 0x00,0x81, and
-dumps of xxd -i, xxd -p and od -An are rewritten in these forms. Each span that a log names is a line
-of its own, and --span picks one. Lines of no form are skipped with --loose, and their number is
-printed on standard error at the end.
+Lines of logs of Cisco (debug isdn q921), Osmocom and mISDN, lists such as 00-81-7f or 0x00,0x81,
+and dumps of xxd -i, xxd -p and od -An are rewritten in these forms. Each span that a log names is a
+line of its own, and --span picks one. Lines of no form are skipped with --loose, and their number
+is printed on standard error at the end.
 
 A capture is pcap or pcapng of link type 177 (LINUX_LAPD) or 203 (LAPD), or GSMTAP over UDP in
 Ethernet, in IPv4 or in link type 113 or 276 (tcpdump -i any). Packets without LAPD are skipped. A

@@ -148,8 +148,8 @@ Prints only frames of these kinds, with commas between: i (I), s
 pub const NO_POLLS: &str = "Leaves out supervisory frames with P or F 1";
 
 pub const COLOR: &str = "\
-Prints trace lines in a color for each sender, and violations in red; auto:
-if standard output is a terminal and
+Prints trace lines in a color for each sender, violations in red; auto: if
+standard output is a terminal and
 NO_COLOR is not set";
 
 pub const ANY_SAPI: &str = "Prints frames of all SAPIs, not only of 0, 16 and 63";

@@ -191,7 +191,7 @@ pub const PRINTED_TEI: NumberOption = NumberOption {
 /// The call reference of the frames that `decode` prints.
 pub const PRINTED_CALL: NumberOption = NumberOption {
     name: "call",
-    value_name: "REFERENCE",
+    value_name: "NUMBER",
     help: "\
 Prints only frames with a message of Q.931 that has this call reference,
 0 to 32767",
