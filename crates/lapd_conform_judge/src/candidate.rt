@@ -1,0 +1,568 @@
+//! An end that may have given the dialogue so far.
+
+use crate::owed::Owed;
+use crate::replay::{Dialogue, Facts, Move, Replay, is_request_to_establish, replayed};
+use lapd_conform_dialogue::{Ask, What};
+use lapd_link::{Control, Out, Recovery, Role, State, Timer};
+use std::alloc::AllocError;
+
+/// When a running timer expires: its expiry is seen between these moments.
+#[derive(Clone, Copy)]
+pub(crate) struct Due {
+    pub earliest: u64,
+    pub latest: u64,
+}
+
+/// The moves that a candidate may make next.
+pub(crate) const MOST_STEPS: usize = 7;
+
+/// An end, the moves that it made, and the frames of its that the tester has not yet received.
+#[derive(Drop)]
+pub(crate) struct Candidate {
+    run: Replay,
+    moves: Vec<Move>,
+    /// The frame that it sends when T200 expires in state 7, and whether this was decided: until
+    /// then both are possible (Q.921 5.6.7).
+    recovery: Recovery,
+    is_decided: bool,
+    facts: Facts,
+    /// The places of the first frame and the first request that it may not have taken.
+    heard: usize,
+    asked: usize,
+    t200: Option<Due>,
+    t203: Option<Due>,
+    owed: Vec<Owed>,
+    /// The moment by which it had sent what it owes.
+    since: u64,
+    /// The earliest moment of its last move.
+    earliest: u64,
+    /// It took a message: it may acknowledge V(R) once more, by RR with F=0.
+    spare: bool,
+    /// It took an I frame out of sequence with P=1.
+    repeats: bool,
+}
+
+impl Candidate {
+    /// A new end. `None` if the setup has no address of a link.
+    pub fn new(dialogue: &Dialogue<'_>) -> Result<Option<Candidate>, AllocError> {
+        match replayed(dialogue, Recovery::Enquiry, &[])? {
+            Some(run) => Ok(Some(Candidate {
+                facts: run.facts(),
+                run,
+                moves: Vec::new(dialogue.alloc),
+                recovery: Recovery::Enquiry,
+                is_decided: false,
+                heard: 0,
+                asked: 0,
+                t200: None,
+                t203: None,
+                owed: Vec::new(dialogue.alloc),
+                since: 0,
+                earliest: 0,
+                spare: false,
+                repeats: false,
+            })),
+            None => Ok(None),
+        }
+    }
+
+    /// A copy whose link has this recovery: its moves are replayed on a new link.
+    fn copy(
+        &self,
+        dialogue: &Dialogue<'_>,
+        recovery: Recovery,
+    ) -> Result<Option<Candidate>, AllocError> {
+        let moves = self.moves.clone()?;
+        let owed = self.owed.clone()?;
+        match replayed(dialogue, recovery, moves.as_slice())? {
+            Some(run) => Ok(Some(Candidate {
+                run,
+                moves,
+                recovery,
+                is_decided: self.is_decided,
+                facts: self.facts,
+                heard: self.heard,
+                asked: self.asked,
+                t200: self.t200,
+                t203: self.t203,
+                owed,
+                since: self.since,
+                earliest: self.earliest,
+                spare: self.spare,
+                repeats: self.repeats,
+            })),
+            None => Ok(None),
+        }
+    }
+
+    /// How many moves it has made.
+    pub fn moves(&self) -> usize {
+        self.moves.len()
+    }
+
+    /// Whether both differ at most in the moments of their timers.
+    pub fn is_like(&self, other: &Candidate) -> bool {
+        self.recovery == other.recovery
+            && self.is_decided == other.is_decided
+            && self.facts == other.facts
+            && self.heard == other.heard
+            && self.asked == other.asked
+            && self.t200.is_some() == other.t200.is_some()
+            && self.t203.is_some() == other.t203.is_some()
+            && self.spare == other.spare
+            && self.repeats == other.repeats
+            && self.owed.as_slice() == other.owed.as_slice()
+    }
+
+    /// Takes the moments of a candidate that is like this one into account.
+    pub fn widen(&mut self, other: &Candidate) {
+        self.t200 = wider(self.t200, other.t200);
+        self.t203 = wider(self.t203, other.t203);
+        self.since = self.since.max(other.since);
+        self.earliest = self.earliest.min(other.earliest);
+    }
+
+    /// Whether it has to go on before it may send: it owes nothing but acknowledgements.
+    pub fn may_go_on(&self) -> bool {
+        for owed in &self.owed {
+            if !owed.is_acknowledgement() {
+                return false;
+            }
+        }
+        true
+    }
+
+    /// Whether a frame that it owes is overdue at this moment.
+    pub fn is_overdue(&self, dialogue: &Dialogue<'_>, now: u64) -> bool {
+        !self.owed.is_empty() && has_passed(self.since, dialogue.setup.patience(), now)
+    }
+
+    /// Whether it must have made a move by this moment.
+    pub fn must_move(&self, dialogue: &Dialogue<'_>, before: usize, now: u64) -> bool {
+        let patience = dialogue.setup.patience();
+        let reach = dialogue.setup.reach();
+        let request_reach = if dialogue.setup.confirmed {
+            reach
+        } else {
+            patience
+        };
+        let heard = self.next(dialogue, What::Sent, self.heard, before);
+        let asked = self.next(dialogue, ASKED, self.asked, before);
+        is_late(dialogue, heard, reach, now)
+            || is_late(dialogue, asked, request_reach, now)
+            || has_expired(self.t200, patience, now)
+            || has_expired(self.t203, patience, now)
+    }
+
+    /// The place of its next frame or request, before this place of the dialogue.
+    fn next(
+        &self,
+        dialogue: &Dialogue<'_>,
+        what: What,
+        from: usize,
+        before: usize,
+    ) -> Option<usize> {
+        for place in from..before {
+            if let Some(happening) = dialogue.happenings.get(place)
+                && happening.what.is_like(what)
+            {
+                return Some(place);
+            }
+        }
+        None
+    }
+
+    /// The moves that it may have made by this moment, before this place of the dialogue.
+    pub fn steps(
+        &self,
+        dialogue: &Dialogue<'_>,
+        before: usize,
+        now: u64,
+    ) -> [Option<Move>; MOST_STEPS] {
+        let sent = self.next(dialogue, What::Sent, self.heard, before);
+        let asked = self.next(dialogue, ASKED, self.asked, before);
+        let is_idle = matches!(self.facts.state, State::TeiAssigned);
+        let limit = self.expiry_limit(dialogue, sent, asked).min(now);
+        [
+            self.expires(self.t203, Move::T203, limit),
+            if dialogue.setup.active && is_idle {
+                Some(Move::Establish)
+            } else {
+                None
+            },
+            if dialogue.setup.confirmed {
+                None
+            } else {
+                skip(asked)
+            },
+            if is_idle {
+                requested(dialogue, sent)
+            } else {
+                None
+            },
+            self.expires(self.t200, Move::T200, limit),
+            ask(asked),
+            hear(sent),
+        ]
+    }
+
+    /// The moment until which a timer may expire before the frame and the request at these places
+    /// are taken.
+    fn expiry_limit(
+        &self,
+        dialogue: &Dialogue<'_>,
+        sent: Option<usize>,
+        asked: Option<usize>,
+    ) -> u64 {
+        let limit = taken_by(dialogue, sent);
+        if dialogue.setup.confirmed {
+            limit.min(taken_by(dialogue, asked))
+        } else {
+            limit
+        }
+    }
+
+    /// Whether it may have made a move by this moment.
+    pub fn has_step(&self, dialogue: &Dialogue<'_>, before: usize, now: u64) -> bool {
+        for step in self.steps(dialogue, before, now) {
+            if step.is_some() {
+                return true;
+            }
+        }
+        false
+    }
+
+    /// This move, if the timer may have expired by this moment.
+    fn expires(&self, timer: Option<Due>, step: Move, now: u64) -> Option<Move> {
+        match timer {
+            Some(due) if due.earliest <= now => Some(step),
+            _ => None,
+        }
+    }
+
+    /// Whether the move decides which frame the end sends when T200 expires in state 7.
+    pub fn decides(&self, step: Move) -> bool {
+        let is_open = matches!(self.facts.state, State::MultipleFrameEstablished);
+        !self.is_decided && is_open && matches!(step, Move::T200)
+    }
+
+    /// The candidate after one more move, which was made by the moment `now`.
+    pub fn after(
+        &self,
+        dialogue: &Dialogue<'_>,
+        step: Move,
+        now: u64,
+    ) -> Result<Option<Candidate>, AllocError> {
+        match self.copy(dialogue, self.recovery)? {
+            Some(mut child) => {
+                child.advance(dialogue, step, now)?;
+                Ok(Some(child))
+            }
+            None => Ok(None),
+        }
+    }
+
+    /// The candidate after T200 has expired in state 7, if it sends the last I frame then.
+    pub fn after_last_message(
+        &self,
+        dialogue: &Dialogue<'_>,
+        now: u64,
+    ) -> Result<Option<Candidate>, AllocError> {
+        match self.copy(dialogue, Recovery::LastMessage)? {
+            Some(mut child) => {
+                child.advance(dialogue, Move::T200, now)?;
+                Ok(Some(child))
+            }
+            None => Ok(None),
+        }
+    }
+
+    /// Makes a move, which was made by the moment `now`.
+    pub fn advance(
+        &mut self,
+        dialogue: &Dialogue<'_>,
+        step: Move,
+        now: u64,
+    ) -> Result<(), AllocError> {
+        self.is_decided = self.is_decided || self.decides(step);
+        self.moves.push(step)?;
+        self.run.step(dialogue, step)?;
+        self.count(dialogue, step, now);
+        self.take(dialogue, step, now)
+    }
+
+    /// Notes what the move takes, and its moments.
+    fn count(&mut self, dialogue: &Dialogue<'_>, step: Move, now: u64) {
+        let cause = match step {
+            Move::Hear(place) | Move::HearRequest(place) => {
+                self.heard = place.saturating_add(1);
+                moment_of(dialogue, place, now)
+            }
+            Move::Ask(place) | Move::Skip(place) => {
+                self.asked = place.saturating_add(1);
+                moment_of(dialogue, place, now)
+            }
+            Move::T200 => expired(&mut self.t200, now),
+            Move::T203 => expired(&mut self.t203, now),
+            Move::Establish => Due {
+                earliest: self.earliest,
+                latest: now,
+            },
+        };
+        self.earliest = self.earliest.max(cause.earliest);
+        self.since = cause.latest.min(now).max(self.since);
+    }
+
+    /// Carries out the outputs of the last move.
+    fn take(&mut self, dialogue: &Dialogue<'_>, step: Move, now: u64) -> Result<(), AllocError> {
+        self.repeats = self.is_repeated(dialogue, step);
+        self.facts = self.run.facts();
+        let until = self.since_of(step, now);
+        for place in 0..self.run.outs.len() {
+            if let Some(out) = self.output(place) {
+                self.put(dialogue, out, until)?;
+            }
+        }
+        Ok(())
+    }
+
+    /// The output of the last move at this place.
+    fn output(&self, place: usize) -> Option<Out> {
+        self.run.outs.as_slice().get(place).copied()
+    }
+
+    /// The latest moment of the last move.
+    fn since_of(&self, step: Move, now: u64) -> u64 {
+        match step {
+            Move::T200 | Move::T203 => self.since,
+            _ => now,
+        }
+    }
+
+    /// Whether the move takes an I frame out of sequence with P=1.
+    fn is_repeated(&self, dialogue: &Dialogue<'_>, step: Move) -> bool {
+        match step {
+            Move::Hear(place) => match dialogue.happenings.get(place) {
+                Some(happening) => is_out_of_sequence(
+                    happening.octets.as_slice(),
+                    self.facts.vr().value(),
+                ),
+                None => false,
+            },
+            _ => false,
+        }
+    }
+
+    /// Carries out one output of a move that was made by the moment `until`.
+    fn put(&mut self, dialogue: &Dialogue<'_>, out: Out, until: u64) -> Result<(), AllocError> {
+        match out {
+            Out::Send(role, control) => self.owe(role, control)?,
+            Out::SendMessage(_, control) => self.owe(Role::Command, control)?,
+            Out::Up => self.spare = true,
+            Out::Start(Timer::T200) => {
+                self.t200 = Some(self.due(dialogue, dialogue.setup.t200, until));
+            }
+            Out::Start(Timer::T203) => {
+                self.t203 = match dialogue.setup.t203 {
+                    Some(duration) => Some(self.due(dialogue, duration, until)),
+                    None => None,
+                };
+            }
+            Out::Stop(Timer::T200) => self.t200 = None,
+            Out::Stop(Timer::T203) => self.t203 = None,
+            _ => {}
+        }
+        Ok(())
+    }
+
+    fn owe(&mut self, role: Role, control: Control) -> Result<(), AllocError> {
+        self.owed.push(Owed { role, control })?;
+        Ok(())
+    }
+
+    fn due(&self, dialogue: &Dialogue<'_>, duration: u64, until: u64) -> Due {
+        Due {
+            earliest: dialogue.setup.earliest(self.earliest, duration),
+            latest: dialogue.setup.latest(until, duration),
+        }
+    }
+
+    /// Whether this frame may come next.
+    pub fn may_send(&self, seen: &Owed) -> bool {
+        self.place_of(seen).is_some() || self.acknowledges_again(seen)
+    }
+
+    /// Notes that the tester has received this frame, which may come next.
+    pub fn send(&mut self, seen: &Owed, now: u64) {
+        if let Some(place) = self.place_of(seen) {
+            self.receive(place, seen.has_receive_number(), now);
+        }
+    }
+
+    /// The candidate after the tester has received this frame.
+    pub fn after_sending(
+        &self,
+        dialogue: &Dialogue<'_>,
+        seen: &Owed,
+        now: u64,
+    ) -> Result<Option<Candidate>, AllocError> {
+        match self.copy(dialogue, self.recovery)? {
+            Some(mut child) => {
+                child.send(seen, now);
+                Ok(Some(child))
+            }
+            None => Ok(None),
+        }
+    }
+
+    /// The place of the frame among those that it owes. Messages keep their order.
+    fn place_of(&self, seen: &Owed) -> Option<usize> {
+        for place in 0..self.owed.len() {
+            if self.owed[place].is_met_by(seen, self.repeats) {
+                return Some(place);
+            }
+            if seen.is_message() && self.owed[place].is_message() {
+                return None;
+            }
+        }
+        None
+    }
+
+    /// Removes a frame that the tester received. If it has N(R), it also takes the place of all
+    /// acknowledgements before it.
+    fn receive(&mut self, place: usize, acknowledges: bool, now: u64) {
+        if place < self.owed.len() {
+            let _ = self.owed.remove(place);
+        }
+        if acknowledges {
+            for _turn in 0..place {
+                self.remove_acknowledgement();
+            }
+        }
+        self.since = self.since.max(now);
+    }
+
+    /// Removes the first frame, if it is an acknowledgement alone.
+    fn remove_acknowledgement(&mut self) {
+        if !self.owed.is_empty() && self.owed[0].is_acknowledgement() {
+            let _ = self.owed.remove(0);
+        }
+    }
+
+    /// Whether the frame is RR with F=0 that acknowledges once more what was taken.
+    fn acknowledges_again(&self, seen: &Owed) -> bool {
+        match seen.control {
+            Control::Rr { nr, pf: false } => self.spare && nr.value() == self.facts.vr().value(),
+            _ => false,
+        }
+    }
+}
+
+fn hear(place: Option<usize>) -> Option<Move> {
+    match place {
+        Some(place) => Some(Move::Hear(place)),
+        None => None,
+    }
+}
+
+fn ask(place: Option<usize>) -> Option<Move> {
+    match place {
+        Some(place) => Some(Move::Ask(place)),
+        None => None,
+    }
+}
+
+fn skip(place: Option<usize>) -> Option<Move> {
+    match place {
+        Some(place) => Some(Move::Skip(place)),
+        None => None,
+    }
+}
+
+/// The move that takes the frame at this place as a request to establish the link.
+fn requested(dialogue: &Dialogue<'_>, place: Option<usize>) -> Option<Move> {
+    let place = place?;
+    let happening = dialogue.happenings.get(place)?;
+    if is_request_to_establish(&dialogue.setup, happening.octets.as_slice()) {
+        Some(Move::HearRequest(place))
+    } else {
+        None
+    }
+}
+
+/// A request, of whatever kind.
+const ASKED: What = What::Asked(Ask::Establish);
+
+/// Whether this much time has passed since a moment.
+fn has_passed(since: u64, time: u64, now: u64) -> bool {
+    since.saturating_add(time) < now
+}
+
+/// The moment by which the frame or request at this place is taken, if there is one.
+fn taken_by(dialogue: &Dialogue<'_>, place: Option<usize>) -> u64 {
+    match place {
+        Some(place) => match dialogue.happenings.get(place) {
+            Some(happening) => happening.at.saturating_add(dialogue.setup.reach()),
+            None => u64::MAX,
+        },
+        None => u64::MAX,
+    }
+}
+
+fn is_late(dialogue: &Dialogue<'_>, place: Option<usize>, patience: u64, now: u64) -> bool {
+    match place {
+        Some(place) => match dialogue.happenings.get(place) {
+            Some(happening) => has_passed(happening.at, patience, now),
+            None => false,
+        },
+        None => false,
+    }
+}
+
+fn has_expired(due: Option<Due>, patience: u64, now: u64) -> bool {
+    match due {
+        Some(due) => has_passed(due.latest, patience, now),
+        None => false,
+    }
+}
+
+/// Clears an expired timer. It expired between the moments that are returned.
+fn expired(timer: &mut Option<Due>, now: u64) -> Due {
+    let due = timer.unwrap_or(Due {
+        earliest: 0,
+        latest: now,
+    });
+    *timer = None;
+    due
+}
+
+/// The moment of a frame or request of the tester, from which an answer is due.
+fn moment_of(dialogue: &Dialogue<'_>, place: usize, now: u64) -> Due {
+    let at = match dialogue.happenings.get(place) {
+        Some(happening) => happening.at,
+        None => now,
+    };
+    Due {
+        earliest: at,
+        latest: at,
+    }
+}
+
+/// The moments of both.
+fn wider(one: Option<Due>, other: Option<Due>) -> Option<Due> {
+    match (one, other) {
+        (Some(one), Some(other)) => Some(Due {
+            earliest: one.earliest.min(other.earliest),
+            latest: one.latest.max(other.latest),
+        }),
+        _ => one,
+    }
+}
+
+/// Whether these octets have the control field of an I frame with P=1 and another N(S) than V(R).
+fn is_out_of_sequence(octets: &[u8], vr: u8) -> bool {
+    match octets {
+        [_, _, first, second, ..] => { *first % 2 == 0 && *first / 2 != vr && *second % 2 == 1 }
+        _ => false,
+    }
+}
