@@ -69,6 +69,7 @@ or tei CheckRequest Ai=127
 send tei CheckResponse Ri=17185 Ai=64
 send tei CheckResponse Ri=39030 Ai=64
 expect tei Remove Ai=64
+within 200 %T201
 expect tei Remove Ai=64
 
 case n-V-07 when all TEIs are assigned, a check or a denial

@@ -1,0 +1,89 @@
+//! Playing the lines of a case.
+
+use crate::case::Case;
+use crate::player::Player;
+use crate::reason::{Lacks, Reason, Stop};
+use crate::spelled::GROUP;
+use crate::stack::Stack;
+use crate::station::{Lost, Station};
+use crate::values::Values;
+use lapd_conform_dialogue::Happening;
+use lapd_conform_suite::{Preamble, Step};
+use std::alloc::Global;
+
+/// What happened when a case was played.
+#[derive(Drop)]
+pub struct Performance {
+    /// Why the purpose was not reached. `None` if it was.
+    pub reason: Option<Reason>,
+    /// The number of the line in the suite at which the case ended.
+    pub line: u64,
+    /// What happened, from a moment at which the link was in state 4 and nothing was in transit.
+    pub happenings: Vec<Happening>,
+    /// The moment at which the case ended, in milliseconds.
+    pub until: u64,
+    /// How late a frame of the stack may be, in milliseconds.
+    pub slack: u64,
+    /// The TEI of the link, if it is known.
+    pub tei: Option<u8>,
+    /// Whether the stack was started anew for the case.
+    pub is_fresh: bool,
+    /// Whether a request was made after the last frame.
+    pub has_asked: bool,
+}
+
+/// The first thing that the stack lacks for a case.
+pub fn lack(stack: &Stack, case: &Case<'_>) -> Option<Lacks> {
+    for line in case.lines {
+        match line.line.step {
+            Step::Ends(side) if side != stack.side => return Some(Lacks::End),
+            Step::Needs(need) if !stack.has(need) => return Some(Lacks::Need(need)),
+            Step::State(state) if !stack.reaches(state) => return Some(Lacks::State(state)),
+            _ => {}
+        }
+    }
+    None
+}
+
+/// Plays the lines of a case. `tei` is the TEI that the network side assigned in a case before.
+///
+/// # Errors
+///
+/// The stack is out of reach, or an allocation failed.
+pub fn perform<S: Station>(
+    alloc: Global,
+    station: &mut S,
+    stack: &Stack,
+    tei: Option<u8>,
+    case: &Case<'_>,
+) -> Result<Performance, Lost> {
+    let is_fresh = station.restart()?;
+    let kept = if is_fresh { None } else { tei };
+    let values = Values::new(*stack, stack.tei.or(kept).unwrap_or(GROUP));
+    let mut player = Player::new(alloc, values, !case.tests_link(), case.lines);
+    let reason = match run(station, &mut player, is_fresh) {
+        Ok(()) if player.is_late => Some(Reason::Late),
+        Ok(()) => None,
+        Err(Stop::Missed(reason)) => Some(reason),
+        Err(Stop::Lost(lost)) => return Err(lost),
+    };
+    Ok(Performance {
+        reason,
+        line: player.line,
+        until: station.now(),
+        slack: player.slack(station),
+        tei: player.tei(),
+        is_fresh,
+        has_asked: player.has_asked,
+        happenings: player.happenings,
+    })
+}
+
+/// Plays the lines. A stack that was not started anew first releases the link.
+fn run<S: Station>(station: &mut S, player: &mut Player<'_>, is_fresh: bool) -> Result<(), Stop> {
+    if !is_fresh && !player.tests_tei {
+        player.reach(station, Preamble::TeiAssigned)?;
+        player.forget();
+    }
+    player.run(station)
+}
