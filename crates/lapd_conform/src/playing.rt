@@ -1,0 +1,188 @@
+//! Playing a case, and the verdict on it.
+
+use crate::outcome::{Doubt, Outcome, Played};
+use lapd_conform_judge::{Judgement, Params, Sapi, Setup, Tei, Verdict, judge, verdict_on};
+use lapd_conform_player::{Case, Group, Lost, Performance, Reason, Stack, Station, lack, perform};
+use std::alloc::Global;
+
+/// How late frames may be, in milliseconds, if TEI management is judged: no timer must expire
+/// meanwhile.
+const MOST_SLACK: u64 = 220;
+
+/// How many messages the I queue of a candidate has room for.
+const ROOM: u16 = 256;
+
+/// What is kept between the cases of one stack.
+#[derive(Clone, Copy)]
+pub struct Session {
+    /// The TEI that the network side assigned to the tester.
+    tei: Option<u8>,
+}
+
+impl Session {
+    /// Before the first case.
+    pub fn new() -> Session {
+        Session { tei: None }
+    }
+}
+
+/// The judgement on the frames of a case, and why it decides nothing.
+#[derive(Clone, Copy)]
+struct Judged {
+    judgement: Judgement,
+    doubt: Doubt,
+}
+
+/// Plays a case. If it fails, it is played again: it fails only if it fails again.
+///
+/// # Errors
+///
+/// The stack is out of reach, or an allocation failed.
+pub fn play<S: Station>(
+    alloc: Global,
+    station: &mut S,
+    stack: &Stack,
+    session: &mut Session,
+    case: &Case<'_>,
+) -> Result<Outcome, Lost> {
+    if let Some(lacks) = lack(stack, case) {
+        return Ok(Outcome::NotApplicable(lacks));
+    }
+    let first = play_once(alloc, station, stack, session, case)?;
+    if first.verdict != Verdict::Fail {
+        return Ok(Outcome::Played(first));
+    }
+    let again = play_once(alloc, station, stack, session, case)?;
+    Ok(Outcome::Played(repeated(again)))
+}
+
+/// The result of a case that failed before.
+fn repeated(played: Played) -> Played {
+    if played.verdict == Verdict::Fail {
+        return played;
+    }
+    Played {
+        verdict: Verdict::Inconclusive,
+        doubt: Doubt::NotRepeated,
+        ..played
+    }
+}
+
+fn play_once<S: Station>(
+    alloc: Global,
+    station: &mut S,
+    stack: &Stack,
+    session: &mut Session,
+    case: &Case<'_>,
+) -> Result<Played, Lost> {
+    let performance = perform(alloc, station, stack, session.tei, case)?;
+    let is_network = matches!(stack.side, lapd_conform_judge::Side::Network);
+    session.tei = if is_network && case.tests_link() {
+        performance.tei
+    } else {
+        session.tei
+    };
+    let judged = judged_performance(alloc, stack, case, &performance)?;
+    Ok(played(performance, judged))
+}
+
+/// The result of a case that was played once.
+fn played(performance: Performance, judged: Judged) -> Played {
+    Played {
+        verdict: verdict_on(performance.reason.is_none(), judged.judgement),
+        line: performance.line,
+        reason: performance.reason,
+        doubt: judged.doubt,
+        refused: place_refused(judged.judgement),
+        happenings: performance.happenings,
+    }
+}
+
+fn place_refused(judgement: Judgement) -> Option<usize> {
+    match judgement {
+        Judgement::Refused(place) => Some(place),
+        _ => None,
+    }
+}
+
+/// The judgement on what happened: by the table for a link, by the purpose for TEI management.
+fn judged_performance(
+    alloc: Global,
+    stack: &Stack,
+    case: &Case<'_>,
+    performance: &Performance,
+) -> Result<Judged, Lost> {
+    if !case.tests_link() {
+        return Ok(judged_by_purpose(stack, case, performance));
+    }
+    let Some(setup) = setup_of(stack, performance) else {
+        return Ok(doubted(Doubt::Allowed));
+    };
+    let happenings = performance.happenings.as_slice();
+    match judge(alloc, &setup, happenings, performance.until) {
+        Ok(judgement) => Ok(Judged {
+            judgement,
+            doubt: doubt_of(judgement),
+        }),
+        Err(_) => Err(Lost::Memory),
+    }
+}
+
+fn doubt_of(judgement: Judgement) -> Doubt {
+    match judgement {
+        Judgement::Allowed | Judgement::Refused(_) => Doubt::Allowed,
+        Judgement::TooMany => Doubt::TooManyRuns,
+        Judgement::LayerThree => Doubt::LayerThree,
+    }
+}
+
+fn doubted(doubt: Doubt) -> Judged {
+    Judged {
+        judgement: Judgement::Allowed,
+        doubt,
+    }
+}
+
+/// What the judge knows of the stack. `None` without a TEI, and if k or N200 is out of range.
+fn setup_of(stack: &Stack, performance: &Performance) -> Option<Setup> {
+    let tei = Tei::new(performance.tei?)?;
+    let params = Params::new(stack.k, stack.n200, ROOM)?;
+    let t203 = if stack.has_t203 {
+        Some(u64::from(stack.t203))
+    } else {
+        None
+    };
+    Some(Setup {
+        side: stack.side,
+        sapi: Sapi::Call,
+        tei,
+        params,
+        t200: u64::from(stack.t200),
+        t203,
+        slack: performance.slack,
+        confirmed: stack.confirms,
+        active: stack.is_active,
+    })
+}
+
+/// TEI management: the purpose of the case decides. It decides nothing if the preamble failed, a
+/// frame was late or may be, a request may have been without effect, or a network side was not
+/// started anew.
+fn judged_by_purpose(stack: &Stack, case: &Case<'_>, performance: &Performance) -> Judged {
+    let is_slow = performance.slack > MOST_SLACK;
+    let is_lost = performance.has_asked && !stack.confirms;
+    let is_stale = !performance.is_fresh && matches!(case.name.group, Group::NetworkTei);
+    if is_slow || is_lost || is_stale {
+        return doubted(Doubt::NotJudged);
+    }
+    match performance.reason {
+        Some(Reason::Unexpected | Reason::Missing | Reason::Early) => Judged {
+            judgement: Judgement::Refused(performance.happenings.len()),
+            doubt: Doubt::Allowed,
+        },
+        Some(Reason::Late | Reason::NotReached(_) | Reason::TooManyFrames) => doubted(
+            Doubt::NotJudged,
+        ),
+        None => doubted(Doubt::Allowed),
+    }
+}
