@@ -218,7 +218,7 @@ fn run_any_lines<R: Read, W: Write>(
 /// # Errors
 ///
 /// `Violated` if a frame violates Q.921 and `strict` is set, and the faults of a script.
-pub fn run_lines<R: Read, W: Write>(
+fn run_lines<R: Read, W: Write>(
     rt: &HostRuntime,
     script: &mut R,
     out: &mut W,

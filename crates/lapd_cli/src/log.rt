@@ -1,8 +1,7 @@
 //! The command `decode` for a log.
 
 use crate::ending::Stop;
-use crate::job::run_lines;
-use lapd_cli_decode::{Drawing, JoinedDumps, Layout, LineForm, LinesStyle, Side};
+use lapd_cli_decode::{Drawing, JoinedDumps, Layout, LineForm, LinesStyle, Side, print_lines};
 use lapd_cli_options::{DecodeOptions, Invocation};
 use lapd_cli_script::ScriptFault;
 use lapd_log::{LogReader, LogStyle, span_name};
@@ -33,7 +32,7 @@ pub fn run_log<R: Read, W: Write>(
         has_times: false,
         needs_year: false,
     };
-    let (mut ended, mut rest) = run_span(rt, chosen, script, out, how, style);
+    let (mut ended, mut rest) = run_span(rt, chosen.strict, script, out, how, style);
     for _span in 0..u64::MAX {
         if rest.is_empty() || matches!(ended, Err(Stop::Script(_))) {
             return ended;
@@ -50,8 +49,7 @@ pub fn run_log<R: Read, W: Write>(
             return Err(Stop::Script(ScriptFault::Device));
         }
         let text = rest;
-        let mut lines = text.as_slice();
-        let (next, others) = run_span(rt, chosen, &mut lines, out, how, style);
+        let (next, others) = run_span(rt, chosen.strict, text.as_slice(), out, how, style);
         ended = match (next, ended) {
             (Ok(()), ended) => ended,
             (Err(stop), _) => Err(stop),
@@ -62,26 +60,38 @@ pub fn run_log<R: Read, W: Write>(
 }
 
 // Prints the frames of the first span of these lines, and returns the lines of the others.
-fn run_span<R: Read, W: Write>(
+fn run_span<L: Read + Drop, W: Write>(
     rt: &HostRuntime,
-    chosen: &Invocation<'_>,
-    script: &mut R,
+    strict: bool,
+    lines: L,
     out: &mut W,
     how: LinesStyle,
     style: LogStyle<'_>,
 ) -> (Result<(), Stop>, Vec<u8>) {
-    let Ok(mut log) = LogReader::new(rt.alloc(), script, style) else {
+    let Ok(mut log) = LogReader::new(rt.alloc(), lines, style) else {
         return (Err(Stop::Script(ScriptFault::Memory)), Vec::new(rt.alloc()));
     };
-    let ended = {
-        let mut joined = JoinedDumps::new(rt.alloc(), &mut log);
-        run_lines(rt, &mut joined, out, how, chosen.strict)
+    let ended = match print_joined(rt, &mut log, out, how) {
+        Ok(is_violated) if strict && is_violated => Err(Stop::Violated),
+        Ok(_) => Ok(()),
+        Err(fault) => Err(Stop::Script(fault)),
     };
     if log.has_words() {
         let _ = eprintln!(rt; "{WORDS}");
     }
     let rest = log.others();
     (ended, rest)
+}
+
+// Prints the frames of lines whose dumps are joined. Returns whether one violates Q.921.
+fn print_joined<L: Read, W: Write>(
+    rt: &HostRuntime,
+    log: &mut L,
+    out: &mut W,
+    how: LinesStyle,
+) -> Result<bool, ScriptFault> {
+    let mut joined = JoinedDumps::new(rt.alloc(), log);
+    print_lines(rt.alloc(), &mut joined, out, how, rt.stderr())
 }
 
 // Whether the frames of several spans can be printed one after the other.
