@@ -1,36 +1,27 @@
-ghost use Rattle.std.specs.Prelude.{◌≡◌, ◌<◌, ◌≤◌, length, drop, map, OnOk, OnErr};
+ghost use Rattle.std.specs.Prelude.{◌≡◌, ◌<◌, length, drop, map, OnOk, OnErr};
 ghost use Rattle.lapd_sides_links.specs.Effects.{and_then, no_effects};
 
+use crate::waiting_lists::WaitingLists;
 use crate::{Acts, FrameOctets, Primitive};
 use std::alloc::{AllocError, Global};
 use std::marker::Model;
 
-/// The frames and primitives of several calls of a side, each in order, for a program that
-/// continues before it has fetched all of them. Removed ones keep their places until others are
-/// appended, so that removing one moves no other.
+/// The results of earlier calls of a side, which wait until they are fetched.
+// The lists are behind a pointer, and made when results are first set aside: a program that fetches
+// all results before its next call never has them, and its calls touch fewer lines of the cache.
 #[derive(Drop)]
 pub struct Backlog {
-    frames: Vec<FrameOctets>,
-    /// The number of frames at the front that are removed.
-    removed_frames: usize,
-    primitives: Vec<Primitive>,
-    /// The number of primitives at the front that are removed.
-    removed_primitives: usize,
+    alloc: Global,
+    lists: Option<Box<WaitingLists>>,
 }
 
 impl Model for Backlog {
-    ghost use Rattle.std.specs.Prelude.{◌≤◌, drop, length, map};
-    ghost use Rattle.lapd_sides_links.specs.Effects.{Effects};
+    ghost use Rattle.std.specs.Prelude.{option_map, unwrap_or};
+    ghost use Rattle.lapd_sides_links.specs.Effects.{Effects, no_effects};
 
     ghost Value = { Effects };
 
-    ghost view = { λ b. record {
-      frames = map (λ f. f.items) (drop b.removed_frames b.frames.items);
-      primitives = drop b.removed_primitives b.primitives.items;
-    } };
-
-    ghost invariant = { λ b. (b.removed_frames ≤ length b.frames.items)
-        × (b.removed_primitives ≤ length b.primitives.items) };
+    ghost view = { λ b. unwrap_or (option_map (λ lists. lists.value) b.lists) no_effects };
 }
 
 impl Backlog {
@@ -38,12 +29,7 @@ impl Backlog {
     pub fn new(alloc: Global) -> Backlog
         ensures { result ≡ no_effects }
     {
-        Backlog {
-            frames: Vec::new(alloc),
-            removed_frames: 0,
-            primitives: Vec::new(alloc),
-            removed_primitives: 0,
-        }
+        Backlog { alloc, lists: None }
     }
 
     /// Moves the results of a call to the end of the backlog.
@@ -59,30 +45,37 @@ impl Backlog {
         ensures unmoved { OnErr result (self.new ≡ self.old) }
         ensures unchanged { OnErr result (acts.new ≡ acts.old) }
     {
-        self.close_up();
-        acts.move_behind(&mut self.frames, &mut self.primitives)
-    }
-
-    /// Frees the places of removed frames and primitives, if at least half of all are removed.
-    fn close_up(&mut self)
-        ensures { self.new ≡ self.old }
-    {
-        self.removed_frames = close_up(&mut self.frames, self.removed_frames);
-        self.removed_primitives = close_up(&mut self.primitives, self.removed_primitives);
+        match &mut self.lists {
+            Some(lists) => lists.append(acts),
+            None => {
+                let mut lists = Box::new(self.alloc, WaitingLists::new(self.alloc))?;
+                lists.append(acts)?;
+                self.lists = Some(lists);
+                Ok(())
+            }
+        }
     }
 
     /// The frames to send, as octets, in order.
+    #[inline(always)]
     pub fn frames(&self) -> &[FrameOctets]
         ensures { map (λ f. f.items) result.now ≡ self.now.frames }
     {
-        &self.frames[self.removed_frames..]
+        match &self.lists {
+            Some(lists) => lists.frames(),
+            None => &[],
+        }
     }
 
     /// The primitives for the layers above, in order.
+    #[inline(always)]
     pub fn primitives(&self) -> &[Primitive]
         ensures { result.now ≡ self.now.primitives }
     {
-        &self.primitives[self.removed_primitives..]
+        match &self.lists {
+            Some(lists) => lists.primitives(),
+            None => &[],
+        }
     }
 
     /// Removes the first frame.
@@ -90,7 +83,10 @@ impl Backlog {
         requires { 0 < length self.old.frames }
         ensures { self.new ≡ record self.old { frames = drop 1 self.old.frames } }
     {
-        self.removed_frames += 1;
+        match &mut self.lists {
+            Some(lists) => lists.remove_frame(),
+            None => unreachable!(),
+        }
     }
 
     /// Removes the first primitive.
@@ -98,24 +94,9 @@ impl Backlog {
         requires { 0 < length self.old.primitives }
         ensures { self.new ≡ record self.old { primitives = drop 1 self.old.primitives } }
     {
-        self.removed_primitives += 1;
-    }
-}
-
-/// Frees the places of the first `removed` items, if these are at least half of all, so that an
-/// item is moved once at most, on average. Returns how many removed items still have a place.
-fn close_up<T: Drop>(items: &mut Vec<T>, removed: usize) -> usize
-    requires { removed ≤ length items.old.items }
-    ensures same { drop result items.new.items ≡ drop removed items.old.items }
-    ensures within { result ≤ length items.new.items }
-{
-    if removed == items.len() {
-        items.clear();
-        0
-    } else if removed < items.len() / 2 {
-        removed
-    } else {
-        let _ = items.drain(..removed);
-        0
+        match &mut self.lists {
+            Some(lists) => lists.remove_primitive(),
+            None => unreachable!(),
+        }
     }
 }

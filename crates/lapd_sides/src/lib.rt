@@ -70,6 +70,7 @@ mod references;
 mod request;
 mod terminal_management;
 mod user_side;
+mod waiting_lists;
 
 pub use either_side::EitherSide;
 pub use lapd_sides_links::{

@@ -7,6 +7,7 @@ ghost use Rattle.lapd_link_machine.specs.Bounds.{is_primitive, primitive_count};
 ghost use Rattle.lapd_link_definition.specs.End.{End};
 ghost use Rattle.lapd_sides_links.specs.declared.acts.TheConstants.{MOST_FRAMES, MOST_PRIMITIVES};
 ghost use Rattle.lapd_sides_links.specs.declared.primitive.Primitive.TheVariants.{Of};
+ghost use Rattle.lapd_sides_links.specs.declared.primitive.What.TheVariants.{UnitUp};
 ghost use Rattle.lapd_sides_links.specs.Effects.{what_of, timed};
 ghost use Rattle.lapd_sides_links.specs.Shown.{made_by};
 
@@ -76,7 +77,7 @@ fn deliver(id: &LinkId, octets: &[u8], out: &Out, acts: &mut Acts)
     let of = *id;
     match out {
         Out::Up => acts.deliver_up(of, octets),
-        Out::UnitUp => acts.deliver(Primitive::Of(of, What::UnitUp(Octets::new(octets)))),
+        Out::UnitUp => deliver_unit(of, octets, acts),
         Out::Established => acts.deliver(Primitive::Of(of, What::Established)),
         Out::Confirmed => acts.deliver(Primitive::Of(of, What::Confirmed)),
         Out::Released => acts.deliver(Primitive::Of(of, What::Released)),
@@ -86,6 +87,19 @@ fn deliver(id: &LinkId, octets: &[u8], out: &Out, acts: &mut Acts)
         Out::Report(letter) => acts.deliver(Primitive::Of(of, What::Report(*letter))),
         Out::Send(..) | Out::SendMessage(..) | Out::SendUnit | Out::Start(_) | Out::Stop(_) => {}
     }
+}
+
+/// Appends received unit data, for the link with this id.
+// If inlined, room for its octets would be cleared for each primitive.
+#[inline(never)]
+fn deliver_unit(of: LinkId, octets: &[u8], acts: &mut Acts)
+    requires fits { length octets.now ≤ N201 }
+    requires room { length acts.old.primitives < MOST_PRIMITIVES }
+    ensures { acts.new ≡ record acts.old {
+      primitives = acts.old.primitives ++ Of of (UnitUp octets.now) ∷ [];
+    } }
+{
+    acts.deliver(Primitive::Of(of, What::UnitUp(Octets::new(octets))));
 }
 
 /// Starts and stops the timers according to these outputs, at the time `now`.

@@ -1,6 +1,6 @@
 use Rattle.std.proofs.Common.{◌∙◌}
 use Rattle.lapd_sides.proofs.Backlogs.{both_on_ok, wait_behind}
-use Rattle.lapd_sides.proofs.backlog.Backlog.append.Goals as goal
+use Rattle.lapd_sides.proofs.waiting_lists.WaitingLists.append.Goals as goal
 
 pub returns-clause-moved : goal.returns-clause-moved
 returns-clause-moved c =

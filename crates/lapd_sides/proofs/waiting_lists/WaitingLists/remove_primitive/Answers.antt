@@ -1,5 +1,5 @@
 use Rattle.lapd_sides.proofs.Backlogs.{primitive_removed}
-use Rattle.lapd_sides.proofs.backlog.Backlog.remove_primitive.Goals as goal
+use Rattle.lapd_sides.proofs.waiting_lists.WaitingLists.remove_primitive.Goals as goal
 
 pub returns : goal.returns
 returns c =
