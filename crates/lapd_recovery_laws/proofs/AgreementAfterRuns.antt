@@ -74,7 +74,7 @@ in_transit_on_tags : (out back : List Flight)
 in_transit_on_tags out back =
     let a = (polls_on_tags out).0 in let b = (polls_on_tags back).1 in omega (arith, a, b)
 
-in_step_on_tags : (w : World) → are_in_step (tag_world w) ≡ are_in_step w
+pub in_step_on_tags : (w : World) → are_in_step (tag_world w) ≡ are_in_step w
 in_step_on_tags w =
     ap (λ n. (n == 0) && (is_answered w.user.end.state
     (polls_in_transit (map tag_flight w.to_network) (map tag_flight w.to_user))
@@ -89,7 +89,7 @@ in_step_on_tags w =
     (polls_in_transit w.to_network w.to_user) && is_answered w.network.end.state n))
     (in_transit_on_tags w.to_user w.to_network)
 
-out_on_tags : (event : PairEvent) (w : World)
+pub out_on_tags : (event : PairEvent) (w : World)
     → is_out_of_step event (tag_world w) ≡ is_out_of_step event w
 out_on_tags event w =
     ap (λ b. b && not (are_in_step (tag_world w))) (early_on_tags event w)
@@ -115,7 +115,7 @@ equal_on_tags x y e = record {
   received = ap tag e.received;
 }
 
-in_agreement_on_tags : (w : World) → AreInAgreement w → AreInAgreement (tag_world w)
+pub in_agreement_on_tags : (w : World) → AreInAgreement w → AreInAgreement (tag_world w)
 in_agreement_on_tags w a = record { empty = left_on_tags w ∙ a.empty; ends = by_ends a.ends }
   where
     by_ends : AreReleased w.user.end w.network.end ⊎ AreEqual w.user.end w.network.end

@@ -35,8 +35,8 @@ no_rejection : (k : Kind) → poll_of k ≡ 1 → rejections (k ∷ []) ≡ []
 no_rejection (Rejection nr) polls = cc
 no_rejection k polls = refl
 
-module _ (b : ℕ) (x y : Station) (to_user to_network : List Flight) (event : PairEvent)
-    (sends : SendsPoll b x to_user to_network event) (free : x.end.window.own_busy ≡ false)
+module _ (b most : ℕ) (x y : Station) (to_user to_network : List Flight) (event : PairEvent)
+    (sends : SendsPoll b most x to_user to_network event) (free : x.end.window.own_busy ≡ false)
     (quiet : x.end.state ≡ TimerRecovery → asked_by (kinds to_network) (kinds to_user) ≡ 0) where
   abbrev out : List Kind
   out = kinds to_network
@@ -237,48 +237,53 @@ by_network event by n w f =
     subst (λ u. FallsBy by n u) (sym (network_alike Whole event w))
     (falls_swapped by n (after side.User event (swapped w)) f)
 
+-- T200 is admitted
+module _ (w : World) (ok : is_ok (acts Whole side.User Expire200 (view_of side.User w)) ≡ true) where
+  pub quiet_200 : asked_by (kinds w.to_network) (kinds w.to_user) ≡ 0
+  quiet_200 =
+      let none = awaits_none (view_of side.User w) ok in
+      let no_poll = none.0 in
+      let no_final = none.1 in
+      omega (arith, no_poll, no_final)
+
+  waited : (state : State) → w.user.end.state ≡ state → is_7_or_8 state ≡ true
+      → waits w.user.end (kinds w.to_network) (kinds w.to_user) ≡ 1
+  waited MultipleFrameEstablished is o =
+      ap (λ st. waits_in st w.user.end.t200
+      (asked_by (kinds w.to_network) (kinds w.to_user))) is
+      ∙ ap one_if (t200_runs (view_of side.User w) ok)
+  waited TimerRecovery is o =
+      let same =
+      ap (λ st. waits_in st w.user.end.t200
+      (asked_by (kinds w.to_network) (kinds w.to_user))) is in
+      let none = quiet_200 in
+      omega (arith, same, none)
+  waited TeiAssigned is o = cc
+  waited AwaitingEstablishment is o = cc
+  waited AwaitingRelease is o = cc
+
+  pub waits_200 : is_7_or_8 w.user.end.state ≡ true
+      → waits w.user.end (kinds w.to_network) (kinds w.to_user) ≡ 1
+  waits_200 opened = waited w.user.end.state refl opened
+
 user_200 : (b n : ℕ) (w : World) → Lasts b w → IsFree w.user.end → Expires n w
     → is_ok (acts Whole side.User Expire200 (view_of side.User w)) ≡ true
     → FallsBy 1 n (after side.User Expire200 w)
 user_200 b n w l free e ok =
     let x = w.user in
-    let out = kinds w.to_network in
-    let back = kinds w.to_user in
     let f =
-    polled_expiries b x w.network w.to_user w.to_network Expire200
-    (t200_polls b x w.to_user w.to_network l.user ok) (free l.user.open_state) (λ is. quiet) n e
+    polled_expiries b x.end.parameters.n200 x w.network w.to_user w.to_network Expire200
+    (t200_polls b x w.to_user w.to_network l.user ok) (free l.user.open_state)
+    (λ is. quiet_200 w ok) n e
     in
     let some = f.some in
-    let one = waited x.end.state refl l.user.open_state in
+    let one = waits_200 w ok l.user.open_state in
     subst (λ u. FallsBy 1 n u) (sym (moved_user Expire200 w)) (record {
       some = omega (arith, some, one);
       expires = subst (λ j. Expires (n - j)
           (with_view side.User (left_by (view_of side.User w)
           (acts Whole side.User Expire200 (view_of side.User w))) w)) one f.expiries;
     })
-  where
-    quiet : asked_by (kinds w.to_network) (kinds w.to_user) ≡ 0
-    quiet =
-        let none = awaits_none (view_of side.User w) ok in
-        let no_poll = none.0 in
-        let no_final = none.1 in
-        omega (arith, no_poll, no_final)
-
-    waited : (state : State) → w.user.end.state ≡ state → is_7_or_8 state ≡ true
-        → waits w.user.end (kinds w.to_network) (kinds w.to_user) ≡ 1
-    waited MultipleFrameEstablished is o =
-        ap (λ st. waits_in st w.user.end.t200
-        (asked_by (kinds w.to_network) (kinds w.to_user))) is
-        ∙ ap one_if (t200_runs (view_of side.User w) ok)
-    waited TimerRecovery is o =
-        let same =
-        ap (λ st. waits_in st w.user.end.t200
-        (asked_by (kinds w.to_network) (kinds w.to_user))) is in
-        let none = quiet in
-        omega (arith, same, none)
-    waited TeiAssigned is o = cc
-    waited AwaitingEstablishment is o = cc
-    waited AwaitingRelease is o = cc
 
 pub t200_falls : (b n : ℕ) (s : Side) (w : World) → Lasts b w → IsFree w.user.end
     → IsFree w.network.end → Expires n w
@@ -307,7 +312,7 @@ user_203 b n w l has free e ok = by_state w.user.end.state refl l.user.open_stat
     by_state MultipleFrameEstablished is o =
         let x = w.user in
         let f =
-        polled_expiries b x w.network w.to_user w.to_network Expire203
+        polled_expiries b x.end.parameters.n200 x w.network w.to_user w.to_network Expire203
         (t203_polls b x w.to_user w.to_network l.user has ok) (free l.user.open_state)
         (λ in_8. let impossible : MultipleFrameEstablished ≡ TimerRecovery = sym is ∙ in_8 in cc)
         n e in

@@ -58,14 +58,14 @@ use Rattle.lapd_recovery_laws.proofs.Transitions.{timers_in}
 -- ---- Ends in step.
 
 -- an end that is open, has no message, and awaits the response to a poll in state 8
-record IsCalm (x : End) (outgoing incoming : List Flight) : Type 0 where
-  open_state : is_7_or_8 x.state ≡ true
-  none : waiting x ≡ 0
-  polled : x.state ≡ TimerRecovery → 1 ≤ polls_in_transit outgoing incoming
+pub record IsCalm (x : End) (outgoing incoming : List Flight) : Type 0 where
+  pub open_state : is_7_or_8 x.state ≡ true
+  pub none : waiting x ≡ 0
+  pub polled : x.state ≡ TimerRecovery → 1 ≤ polls_in_transit outgoing incoming
 
-record Calm (w : World) : Type 0 where
-  user : IsCalm w.user.end w.to_network w.to_user
-  network : IsCalm w.network.end w.to_user w.to_network
+pub record Calm (w : World) : Type 0 where
+  pub user : IsCalm w.user.end w.to_network w.to_user
+  pub network : IsCalm w.network.end w.to_user w.to_network
 
 calm_swapped : (w : World) → Calm w → Calm (swapped w)
 calm_swapped w c = record { user = c.network; network = c.user }
@@ -94,7 +94,7 @@ all_three true true false all = cc
 all_three true false c all = cc
 all_three false b c all = cc
 
-in_step_is_calm : (w : World) → IsConsistentWorld Whole w → are_in_step w ≡ true → Calm w
+pub in_step_is_calm : (w : World) → IsConsistentWorld Whole w → are_in_step w ≡ true → Calm w
 in_step_is_calm w k all =
     let three =
     all_three (left w == 0)
@@ -382,7 +382,7 @@ module _ (N : ℕ) where
     pub facts : Facts N w
     pub preserved : IsConsistentWorld Whole w
 
-  knows_after : (move : Move) (w : World) → Knows w → Knows (world_after w (happens Whole move w))
+  pub knows_after : (move : Move) (w : World) → Knows w → Knows (world_after w (happens Whole move w))
   knows_after move w k = record {
     facts = facts_after N move w k.facts;
     preserved = run_consistent Whole (move ∷ []) w k.preserved;
@@ -398,7 +398,7 @@ module _ (N : ℕ) where
   calm_move s (Lose i) w k c one none = absurd (omega (arith, none))
   calm_move s event w k c one none = let impossible = one.of_line in cc
 
-  calm_stays : (moves : List Move) (w : World) → Knows w → Calm w → AreLineMoves Whole moves w
+  pub calm_stays : (moves : List Move) (w : World) → Knows w → Calm w → AreLineMoves Whole moves w
       → losses moves ≡ 0 → AreInAgreement (run Whole moves w)
   calm_stays [] w k c own none = calm_agrees w k.facts.holds k.preserved c
   calm_stays (move ∷ moves) w k c own none =
@@ -506,7 +506,7 @@ module _ (N : ℕ) where
       }
 
   -- from ends that agree
-  stays_agreed : (moves : List Move) (w : World) → Knows w → AreSettled w
+  pub stays_agreed : (moves : List Move) (w : World) → Knows w → AreSettled w
       → AreLineMoves Whole moves w → losses moves ≡ 0 → AreInAgreement (run Whole moves w)
   stays_agreed moves w k a own none = by_ends a.ends
     where
@@ -526,11 +526,11 @@ module _ (N : ℕ) where
           calm_stays moves w k (settled_is_calm w k a.empty in_7.0 in_7.1) own none
 
   -- an own move is a line move, not early, and overtakes nothing
-  record IsPlain (s : Side) (event : PairEvent) (w : World) : Type 0 where
-    line_move : IsLineMove Whole (record { side = s; event = event }) w
-    lossless : one_if (is_loss event) ≡ 0
-    timely : one_if (is_early event w) ≡ 0
-    first : overtaken_by event (view_of s w) ≡ 0
+  pub record IsPlain (s : Side) (event : PairEvent) (w : World) : Type 0 where
+    pub line_move : IsLineMove Whole (record { side = s; event = event }) w
+    pub lossless : one_if (is_loss event) ≡ 0
+    pub timely : one_if (is_early event w) ≡ 0
+    pub first : overtaken_by event (view_of s w) ≡ 0
 
   none_in_8 : (state : State) (l : List Flight) → l ≡ [] → if_in_8 state (messages_in l) ≡ 0
   none_in_8 TimerRecovery l none = ap messages_in none
@@ -541,7 +541,7 @@ module _ (N : ℕ) where
   empty_line [] (f ∷ fs) all = cc
   empty_line (f ∷ fs) b all = cc
 
-  own_is_plain : (s : Side) (event : PairEvent) (w : World)
+  pub own_is_plain : (s : Side) (event : PairEvent) (w : World)
       → IsOwn Whole (record { side = s; event = event }) w → IsPlain s event w
   own_is_plain s Deliver w own = record {
     line_move = record { of_line = refl; admitted = own.admitted };

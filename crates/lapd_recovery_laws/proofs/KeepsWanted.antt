@@ -477,16 +477,16 @@ module _ (N : ℕ) (x y : Station) (frame : Flight) (rest to_network : List Flig
   abbrev w : World
   w = at x y (frame ∷ rest) to_network
 
-  abbrev viewed : View
+  abbrev pub viewed : View
   viewed = seeing x (frame ∷ rest) to_network
 
-  abbrev Kept : View → Type 0
+  abbrev pub Kept : View → Type 0
   Kept u =
       Keeps x y frame rest to_network f.holds.user_base f.holds.network_base wanted.mine
       wanted.to_user.0 wanted.to_network (kind frame) u.station.end u.outgoing
       × (u.incoming ≡ rest)
 
-  view_keeps : Kept (left_by viewed (acts Whole side.User Deliver viewed))
+  pub view_keeps : Kept (left_by viewed (acts Whole side.User Deliver viewed))
   unfolding acts delivers receives step view_after
   view_keeps = (
     row_keeps x y frame rest to_network f.holds.user_base f.holds.network_base

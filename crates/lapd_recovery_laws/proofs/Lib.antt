@@ -6,6 +6,8 @@ pub mod Cleared
 pub mod ClosedDelivers
 pub mod ClosedInputs
 pub mod ClosedSteps
+pub mod Controls
+pub mod ControlsOfTimers
 pub mod CountedMoves
 pub mod CountedTimers
 pub mod DespiteLosses
@@ -18,7 +20,11 @@ pub mod Expiries
 pub mod ExpiriesOfTimers
 pub mod Exchanges
 pub mod FewLosses
+pub mod FreeAfterRuns
+pub mod FreeTimers
 pub mod HalfSteps
+pub mod Handles
+pub mod InTime
 pub mod KeepsAgreement
 pub mod KeepsWanted
 pub mod KeptNumbers
@@ -39,12 +45,15 @@ pub mod OpenMoves
 pub mod OpenTimers
 pub mod Outage
 pub mod OutageWorlds
+pub mod Overtaken
 pub mod OwnOnTags
 pub mod Proceeding
 pub mod QuickRuns
 pub mod QuickSchedule
+pub mod Rejoins
 pub mod Releases
 pub mod ReleasesAfterRuns
+pub mod Renewals
 pub mod Replies
 pub mod RepliesOfRows
 pub mod RetriesLeft
@@ -60,5 +69,7 @@ pub mod TimersWanted
 pub mod Transitions
 pub mod UnreadNumbers
 pub mod Wanted
+pub mod WorkedInTime
+pub mod WorkedRounds
 pub mod WorkedTimers
 pub mod WorkedWorlds

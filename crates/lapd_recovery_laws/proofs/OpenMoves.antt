@@ -52,25 +52,28 @@ side_expects x y base its_base out back both x_opened y_opened =
     let one = waits_few x.end.state x.end.t200 (asked_by out back) in
     inl (omega (arith, le, few, same, one))
 
-pub expires_from : (b : ℕ) (w : World) → IsInvariant w → Lasts b w
+pub open_expires : (w : World) → IsInvariant w → is_7_or_8 w.user.end.state ≡ true
+    → is_7_or_8 w.network.end.state ≡ true
     → Expires (2 * waiting w.user.end + 2 * waiting w.network.end + 2 + unready w.to_user
     + unready w.to_network) w
-expires_from b w i l =
-    let u = l.user.open_state in
-    let v = l.network.open_state in
-    record {
-      a = 2 * waiting w.user.end + 1;
-      b = 2 * waiting w.network.end + 1;
-      mine =
-          side_expects w.user w.network i.user_base i.network_base (kinds w.to_network)
-          (kinds w.to_user) i.both u v;
-      its =
-          side_expects w.network w.user i.network_base i.user_base (kinds w.to_user)
-          (kinds w.to_network) (record { mine = i.both.its; its = i.both.mine }) v u;
-      most = omega arith;
-    }
+open_expires w i u v = record {
+  a = 2 * waiting w.user.end + 1;
+  b = 2 * waiting w.network.end + 1;
+  mine =
+      side_expects w.user w.network i.user_base i.network_base (kinds w.to_network)
+      (kinds w.to_user) i.both u v;
+  its =
+      side_expects w.network w.user i.network_base i.user_base (kinds w.to_user)
+      (kinds w.to_network) (record { mine = i.both.its; its = i.both.mine }) v u;
+  most = omega arith;
+}
 
-expires_more : (m n : ℕ) (w : World) → m ≤ n → Expires m w → Expires n w
+expires_from : (b : ℕ) (w : World) → IsInvariant w → Lasts b w
+    → Expires (2 * waiting w.user.end + 2 * waiting w.network.end + 2 + unready w.to_user
+    + unready w.to_network) w
+expires_from b w i l = open_expires w i l.user.open_state l.network.open_state
+
+pub expires_more : (m n : ℕ) (w : World) → m ≤ n → Expires m w → Expires n w
 expires_more m n w le e =
     let most = e.most in
     record { a = e.a; b = e.b; mine = e.mine; its = e.its; most = omega (arith, most, le) }

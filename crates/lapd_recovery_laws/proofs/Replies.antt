@@ -123,6 +123,7 @@ pub record Backs (c : Context) (k : Kind) (ks : List Kind) (s t : StepState) : T
   pub va : t.end.window.va ≡ nr
   pub in_window : s.end.window.vs - nr ≤ t.end.parameters.k
   pub free : s.end.state ≡ MultipleFrameEstablished → t.end.window.peer_busy ≡ false
+  pub stopped : s.end.state ≡ MultipleFrameEstablished → t.end.t200 ≡ false
   pub no_message : message_of k ≡ []
   pub light : weight_of k ≡ 1
   pub no_poll : poll_of k ≡ 0

@@ -186,10 +186,11 @@ back_row : (c : Context) (k : Kind) (ks : List Kind) (nr : ℕ) (s t : StepState
     → t.end.window.own_busy ≡ s.end.window.own_busy → receiving t.end ≡ receiving s.end
     → t.end.first ≡ s.end.first + (nr - s.end.window.va)
     → t.end.window.va ≡ nr → t.end.parameters.k ≡ s.end.parameters.k
-    → (s.end.state ≡ MultipleFrameEstablished → t.end.window.peer_busy ≡ false) → IsQueued s nr
+    → (s.end.state ≡ MultipleFrameEstablished → t.end.window.peer_busy ≡ false)
+    → (s.end.state ≡ MultipleFrameEstablished → t.end.t200 ≡ false) → IsQueued s nr
     → (is_7_or_8 c.peer.state ≡ true → c.peer.takes.vr ≡ nr) → Backs c k ks s t
 back_row c k ks nr s t no_message light no_poll wanted unwanted final arrives same calm in_7 vs next given
-    own_busy receiving_same acked va same_k free q awaited =
+    own_busy receiving_same acked va same_k free stopped q awaited =
     let low = q.low in
     let high = q.high in
     let sent = q.sent in
@@ -212,6 +213,7 @@ back_row c k ks nr s t no_message light no_poll wanted unwanted final arrives sa
       va = va;
       in_window = let room = q.room in omega (arith, low, room, same_k);
       free = free;
+      stopped = stopped;
       no_message = no_message;
       light = light;
       no_poll = no_poll;
@@ -271,7 +273,7 @@ module _ (c : Context) (nr : ℕ) (ks : List Kind) (s : StepState)
             (start_203_puts c (stop T200 b)).dropped ∙ (stop_200_puts c b).dropped
             ∙ (acknowledge_puts c s nr).dropped;
       }) is refl refl refl refl refl refl refl refl
-      (λ in_7. peer_free) (queued c nr ks s status_of_rej)
+      (λ in_7. peer_free) (λ in_7. refl) (queued c nr ks s status_of_rej)
       (λ opened.
       (rejected_so {x = seen c s} {y = c.peer} {out = line c s} nr ks is opened m).at)
 
@@ -314,7 +316,7 @@ module _ (c : Context) (nr : ℕ) (ks : List Kind) (s : StepState) (is : s.end.s
             (start_203_puts c (stop T200 b)).dropped ∙ (stop_200_puts c b).dropped
             ∙ (acknowledge_puts c s nr).dropped;
       }) refl refl refl refl refl refl refl refl
-      refl (λ in_7. cc) (queued c nr ks s status_of_final)
+      refl (λ in_7. cc) (λ in_7. cc) (queued c nr ks s status_of_final)
       (λ opened. (final_so {x = seen c s} {y = c.peer} {out = line c s} nr ks is opened m).at)
 
   rnr_final_backs : Backs c (Final nr) ks s
@@ -331,7 +333,7 @@ module _ (c : Context) (nr : ℕ) (ks : List Kind) (s : StepState) (is : s.end.s
         rc = refl;
         dropped = (start_200_puts c b).dropped ∙ (acknowledge_puts c s nr).dropped;
       }) refl
-      refl refl refl refl refl refl refl refl (λ in_7. cc) (queued c nr ks s status_of_final)
+      refl refl refl refl refl refl refl refl (λ in_7. cc) (λ in_7. cc) (queued c nr ks s status_of_final)
       (λ opened. (final_so {x = seen c s} {y = c.peer} {out = line c s} nr ks is opened m).at)
 
   rr_backs_in_8 : Backs c (Final nr) ks s (rr_nr_in_recovery Whole true nr s)
@@ -379,6 +381,7 @@ keeps_backs {c = c} {s = s} {t = t} a b = record {
       let q = b.in_window in
       let vs = ap (λ (v : Sending). v.vs) a.sending_same in omega (arith, q, vs);
   free = λ in_7. b.free (ap (λ (v : Sending). v.state) a.sending_same ∙ in_7);
+  stopped = λ in_7. b.stopped (ap (λ (v : Sending). v.state) a.sending_same ∙ in_7);
   no_message = b.no_message;
   light = b.light;
   no_poll = b.no_poll;

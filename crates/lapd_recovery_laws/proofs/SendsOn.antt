@@ -266,12 +266,12 @@ module _ (x : Station) (frame : Flight) (rest outgoing : List Flight) where
       Opens n sent rest (view_after frame.info frame.place (record v { incoming = rest }) t)
 
 -- the SABME of the peer
-module _ (x : Station) (rest outgoing : List Flight) where
+module _ (x : Station) (frame : Flight) (rest outgoing : List Flight) where
   abbrev e : End
   e = x.end
 
   abbrev Then : StepState → Type 0
-  Then t = After x sabme rest outgoing (unsent e) (outgoing ++ ua ∷ []) (end_step Whole t)
+  Then t = After x frame rest outgoing (unsent e) (outgoing ++ ua ∷ []) (end_step Whole t)
 
   abbrev reset : StepState → StepState
   reset d = d ▷ stop T200 ▷ start T203 ▷ zero_state_variables ▷ state_to MultipleFrameEstablished
@@ -289,7 +289,7 @@ module _ (x : Station) (rest outgoing : List Flight) where
   unfolding put clear_exception_conditions stop start zero_state_variables state_to begin
       without_exceptions with_zero_counters story_after
   answers test =
-      opens x sabme rest outgoing (unsent e) (outgoing ++ ua ∷ [])
+      opens x frame rest outgoing (unsent e) (outgoing ++ ua ∷ [])
       (reset (discards_by test answered)) (record {
         in_7 = refl;
         off = refl;
@@ -317,12 +317,21 @@ module _ (x : Station) (rest outgoing : List Flight) where
   by_state_7_8 AwaitingEstablishment opened = cc
   by_state_7_8 AwaitingRelease opened = cc
 
-  pub sabme_in_7_8 : is_7_or_8 e.state ≡ true
+  pub sabme_opens : frame.control ≡ Sabme true → frame.role ≡ Command → is_7_or_8 e.state ≡ true
       → Opens (unsent e) (outgoing ++ ua ∷ []) rest
-      (left_by (seeing x (sabme ∷ rest) outgoing)
-      (acts Whole side.User Deliver (seeing x (sabme ∷ rest) outgoing)))
+      (left_by (seeing x (frame ∷ rest) outgoing)
+      (acts Whole side.User Deliver (seeing x (frame ∷ rest) outgoing)))
   unfolding acts delivers receives step
-  sabme_in_7_8 opened = by_state_7_8 e.state opened
+  sabme_opens is by opened =
+      subst (λ control. Then (row Whole e.state (Heard control frame.role) (begin e))) (sym is)
+      (subst (λ role. Then (row Whole e.state (Heard (Sabme true) role) (begin e))) (sym by)
+      (by_state_7_8 e.state opened))
+
+pub sabme_in_7_8 : (x : Station) (rest outgoing : List Flight) → is_7_or_8 x.end.state ≡ true
+    → Opens (unsent x.end) (outgoing ++ ua ∷ []) rest
+    (left_by (seeing x (sabme ∷ rest) outgoing)
+    (acts Whole side.User Deliver (seeing x (sabme ∷ rest) outgoing)))
+sabme_in_7_8 x rest outgoing opened = sabme_opens x sabme rest outgoing refl refl opened
 
 -- ---- The UA in state 5.
 
@@ -370,12 +379,13 @@ unfolding discard_unacknowledged
 by_each P s each = each (s.end.window.vs == s.end.window.va) refl
 
 module _ (x : Station) (asks : IsCleared x.end)
-    (empty : x.end.layer3_initiated ≡ true → unsent x.end ≡ 0) (rest outgoing : List Flight) where
+    (empty : x.end.layer3_initiated ≡ true → unsent x.end ≡ 0) (frame : Flight)
+    (rest outgoing : List Flight) where
   abbrev d : End
   d = x.end
 
   abbrev Arrives : StepState → Type 0
-  Arrives t = After x ua rest outgoing (sendable d) outgoing (end_step Whole t)
+  Arrives t = After x frame rest outgoing (sendable d) outgoing (end_step Whole t)
 
   abbrev opening : StepState → StepState
   opening s = s ▷ zero_state_variables ▷ stop T200 ▷ start T203 ▷ state_to MultipleFrameEstablished
@@ -390,7 +400,7 @@ module _ (x : Station) (asks : IsCleared x.end)
   confirms : d.layer3_initiated ≡ true → Arrives (opening (put Confirmed (begin d)))
   unfolding put zero_state_variables stop start state_to with_zero_counters begin story_after
   confirms asked =
-      opens x ua rest outgoing (sendable d) outgoing (opening (put Confirmed (begin d))) (record {
+      opens x frame rest outgoing (sendable d) outgoing (opening (put Confirmed (begin d))) (record {
         in_7 = refl;
         off = refl;
         vs = refl;
@@ -407,7 +417,7 @@ module _ (x : Station) (asks : IsCleared x.end)
       → Arrives (opening (discards_by test (begin d)))
   unfolding zero_state_variables stop start state_to with_zero_counters begin story_after
   indicates test same =
-      opens x ua rest outgoing (sendable d) outgoing (opening (discards_by test (begin d)))
+      opens x frame rest outgoing (sendable d) outgoing (opening (discards_by test (begin d)))
       (record {
         in_7 = refl;
         off = refl;
@@ -428,10 +438,20 @@ module _ (x : Station) (asks : IsCleared x.end)
       (λ asked. confirms asked)
       (λ _. by_each (λ (s : StepState). Arrives (opening s)) (begin d) indicates))
 
-  pub ua_opens : Opens (sendable d) outgoing rest
-      (left_by (seeing x (ua ∷ rest) outgoing)
-      (acts Whole side.User Deliver (seeing x (ua ∷ rest) outgoing)))
+  pub opens_by_ua : frame.control ≡ Ua true → frame.role ≡ Answer
+      → Opens (sendable d) outgoing rest
+      (left_by (seeing x (frame ∷ rest) outgoing)
+      (acts Whole side.User Deliver (seeing x (frame ∷ rest) outgoing)))
   unfolding acts delivers receives step
-  ua_opens =
-      subst (λ st. Arrives (row Whole st (Heard (Ua true) Answer) (begin d))) (sym asks.in_5)
-      arrives
+  opens_by_ua is by =
+      subst (λ control. Arrives (row Whole d.state (Heard control frame.role) (begin d))) (sym is)
+      (subst (λ role. Arrives (row Whole d.state (Heard (Ua true) role) (begin d))) (sym by)
+      (subst (λ st. Arrives (row Whole st (Heard (Ua true) Answer) (begin d))) (sym asks.in_5)
+      arrives))
+
+pub ua_opens : (x : Station) → IsCleared x.end
+    → (x.end.layer3_initiated ≡ true → unsent x.end ≡ 0) → (rest outgoing : List Flight)
+    → Opens (sendable x.end) outgoing rest
+    (left_by (seeing x (ua ∷ rest) outgoing)
+    (acts Whole side.User Deliver (seeing x (ua ∷ rest) outgoing)))
+ua_opens x asks empty rest outgoing = opens_by_ua x asks empty ua rest outgoing refl refl

@@ -183,7 +183,7 @@ pub less : (a b : ℕ) → a + 1 ≤ b → nat_lt a b ≡ true
 less a b le = grind (arith, nat_tests, le)
 
 -- T200 waits for its poll and the final, and for its SABME or DISC and the response
-abbrev AwaitsNone : View → Type 0
+abbrev pub AwaitsNone : View → Type 0
 AwaitsNone v =
     (tally poll_of (kinds v.outgoing) ≡ 0) × (tally final_of (kinds v.incoming) ≡ 0)
     × (tally ask_of (kinds v.outgoing) ≡ 0) × (tally answer_of (kinds v.incoming) ≡ 0)
@@ -207,10 +207,10 @@ awaits_none v ok =
     by_tests false one other poll final taken ok = cc
 
 -- x sends a poll, beside the frames in transit
-pub record SendsPoll (b : ℕ) (x : Station) (to_user to_network : List Flight) (event : PairEvent) :
-    Type 0 where
+pub record SendsPoll (b most : ℕ) (x : Station) (to_user to_network : List Flight)
+    (event : PairEvent) : Type 0 where
   pub rc : ℕ
-  pub enough : rc + b ≤ x.end.parameters.n200
+  pub enough : rc + b ≤ most
   pub alone : View
   pub polls : Polls x rc alone
   pub beside : IsBeside to_user to_network alone
@@ -223,14 +223,14 @@ module _ (b : ℕ) (x : Station) (to_user to_network : List Flight)
   seen = seeing x to_user to_network
 
   pub t200_polls : is_ok (acts Whole side.User Expire200 seen) ≡ true
-      → SendsPoll b x to_user to_network Expire200
+      → SendsPoll b x.end.parameters.n200 x to_user to_network Expire200
   t200_polls ok = by_state x.end.state refl l.open_state
     where
       on : x.end.t200 ≡ true
       on = t200_runs seen ok
 
       by_state : (state : State) → x.end.state ≡ state → is_7_or_8 state ≡ true
-          → SendsPoll b x to_user to_network Expire200
+          → SendsPoll b x.end.parameters.n200 x to_user to_network Expire200
       by_state MultipleFrameEstablished is o = record {
         rc = 1;
         enough = (let spare = l.spare in omega (arith, spare));
@@ -257,14 +257,14 @@ module _ (b : ℕ) (x : Station) (to_user to_network : List Flight)
       by_state AwaitingRelease is o = cc
 
   pub t203_polls : HasTimersOfState x.end → is_ok (acts Whole side.User Expire203 seen) ≡ true
-      → SendsPoll b x to_user to_network Expire203
+      → SendsPoll b x.end.parameters.n200 x to_user to_network Expire203
   t203_polls has ok = by_state x.end.state refl l.open_state
     where
       on : x.end.t203 ≡ true
       on = t203_runs seen ok
 
       by_state : (state : State) → x.end.state ≡ state → is_7_or_8 state ≡ true
-          → SendsPoll b x to_user to_network Expire203
+          → SendsPoll b x.end.parameters.n200 x to_user to_network Expire203
       by_state MultipleFrameEstablished is o = record {
         rc = 0;
         enough = (let spare = l.spare in omega (arith, spare));
@@ -279,7 +279,8 @@ module _ (b : ℕ) (x : Station) (to_user to_network : List Flight)
       by_state AwaitingRelease is o = cc
 
 polled : (b : ℕ) (event : PairEvent) (x y : Station) (to_user to_network : List Flight)
-    → Lasts b (at x y to_user to_network) → SendsPoll b x to_user to_network event
+    → Lasts b (at x y to_user to_network)
+    → SendsPoll b x.end.parameters.n200 x to_user to_network event
     → Goes b (at x y to_user to_network) (after side.User event (at x y to_user to_network))
 polled b event x y to_user to_network l sends =
     let w = at x y to_user to_network in

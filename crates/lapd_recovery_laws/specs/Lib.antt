@@ -4,6 +4,8 @@ pub mod Deliveries
 pub mod EarlyTimers
 pub mod EveryWorld
 pub mod FewLosses
+pub mod FreeTimers
+pub mod InTime
 pub mod KeptAgreement
 pub mod LoneLine
 pub mod Losses
@@ -11,6 +13,7 @@ pub mod OpenLine
 pub mod Own
 pub mod QuickRestart
 pub mod Recovered
+pub mod Rounds
 pub mod ReleasedLine
 pub mod Timers
 pub mod Untimely

@@ -31,6 +31,7 @@ pub use recovery::{
     every_line_comes_back, every_line_runs_empty, every_lone_line_comes_up,
     every_open_line_comes_up, every_released_line_comes_down, every_wanted_line_comes_up,
     every_world_comes_back, every_world_comes_back_despite_early_timers,
-    every_world_comes_back_despite_losses, few_losses_drop_nothing, recovery_is_computed,
-    timers_of_states_run,
+    every_world_comes_back_despite_losses, every_world_comes_back_in_time,
+    every_world_comes_back_whenever_timers_expire, few_losses_drop_nothing, recovery_is_computed,
+    rounds_are_computed, runs_in_any_time_are_computed, timers_of_states_run,
 };

@@ -15,12 +15,15 @@ ghost use Rattle.lapd_recovery_laws.specs.EveryWorld.{IsFreeWorld, WorldComesBac
 ghost use Rattle.lapd_recovery_laws.specs.Deliveries.{RunsEmpty};
 ghost use Rattle.lapd_recovery_laws.specs.EarlyTimers.{ComesBackDespiteTimers};
 ghost use Rattle.lapd_recovery_laws.specs.FewLosses.{t200s, most_t200s, OutlastLosses, KeepsAll};
+ghost use Rattle.lapd_recovery_laws.specs.FreeTimers.{ComesBackFreely};
+ghost use Rattle.lapd_recovery_laws.specs.InTime.{ComesBackInTime};
 ghost use Rattle.lapd_recovery_laws.specs.KeptAgreement.{earlies_out_of_step, KeepsAgreement};
 ghost use Rattle.lapd_recovery_laws.specs.LoneLine.{IsLoneLine, ComesUpAnew};
 ghost use Rattle.lapd_recovery_laws.specs.Losses.{ComesBackDespite, AreOwnOrLosses};
 ghost use Rattle.lapd_recovery_laws.specs.OpenLine.{IsOpenLine, ComesUp};
 ghost use Rattle.lapd_recovery_laws.specs.Recovered.{outcome_of, outcome_of_deliveries, outcome_from, first_of_three_lost, poll_meets_sabme, both_sabmes_lost, network_restarts, restarts_with_one_sent, release_waits, sabmes_lost, disc_lost, release_unheard, disc_meets_sabme, dm_sent, longest, both_in_7, both_in_4, held_up, IsBusy, message_lost, three_polls_lost, two_polls_lost, outcome_despite, outcome_of_few, polls_cross, polled_on, agreed_after, least_pair, all_admitted, outcome_of_least, eight_wait, t200_beside_frames, too_many_t200, network_sabme_lost, t203_before_t200, too_many_t203};
 ghost use Rattle.lapd_recovery_laws.specs.ReleasedLine.{IsReleasedLine, ComesDown};
+ghost use Rattle.lapd_recovery_laws.specs.Rounds.{IsRound, idle_end, message_lost_again, losses_go_on, one_sent, t203_again, t203s_go_on, in_state_5, polled_again, busy_goes_on, one_waits, outcome_of_free, establishes_late, MeetsTime};
 ghost use Rattle.lapd_recovery_laws.specs.Timers.{HaveTimersOfStates};
 ghost use Rattle.lapd_recovery_laws.specs.Untimely.{untimely, outcome_of_line, t203_counted, message_sent, t200_overtakes, outcome_of_open, eight_given, t200_beside_each, seven_idle_polls};
 ghost use Rattle.lapd_recovery_laws.specs.WantedLine.{AreWanting, IsWanted};
@@ -288,6 +291,71 @@ pub fn every_world_comes_back_despite_early_timers()
         → user.k ≤ 127 → network.k ≤ 127 → 1 ≤ user.k → 1 ≤ network.k → (moves : List Move)
         → IsFreeWorld n200 (run r moves (new_world user network))
         → ComesBackDespiteTimers r n200 (run r moves (new_world user network)) }
+{}
+
+/// Every world recovers by itself within a fixed number of moves, whenever T200 expires. Whatever
+/// happened before, with frames in transit or not, suppose that no frame is lost from then on, and
+/// that no end in state 7 or 8 is own receiver busy. Moves are deliveries, T200 wherever it runs,
+/// but not while a command with P=1 of its end, or the response to it, is in transit, and T203
+/// wherever it runs, in any order. T203 is early unless no frame is in transit, T200 runs at
+/// neither end, and exactly one end is in state 7. Say that m messages are left and f frames are in
+/// transit at the start, that n is `n200`, and that T203 expires early j times. Then T200 expires
+/// at most T = (3 m + 3 f + 4 j + 17) (2 m + f + n + 3) times, and the moves are at most 2 f + 3 m
+/// + 6 n + 15 + (T + j + 1) (6 m + f + 6 n + 24). When no own move of [`every_world_comes_back`] is
+/// possible any more, both ends agree: both in state 4, or both in state 7 with equal numbers, and
+/// no message is left. After as many moves as with one early T203 more, or after more, the ends are
+/// in agreement as [`every_agreement_is_kept`] says; only early T203s count that expire while the
+/// ends are not in step. The run starts in a new world, on whole numbers or on tags, with windows
+/// of 1 to 127 and either `Recovery`. `n200` is at least 1, and at least N200 of each end.
+pub fn every_world_comes_back_whenever_timers_expire()
+    ensures { (r : Reading) (n200 : ℕ) → 1 ≤ n200 → (user network : Parameters)
+        → user.k ≤ 127 → network.k ≤ 127 → 1 ≤ user.k → 1 ≤ network.k → (moves : List Move)
+        → IsFreeWorld n200 (run r moves (new_world user network))
+        → ComesBackFreely r n200 (run r moves (new_world user network)) }
+{}
+
+/// Every world recovers by itself in time, if frames and timers of both ends are in time. The
+/// premises are those of [`every_world_comes_back_whenever_timers_expire`], and each move has a
+/// moment, in milliseconds. While an own move is possible, the next move follows within the longest
+/// time of a frame if a frame is in transit, else within that of T200 if T200 runs, else within
+/// that of T203. If T203 expires early j times while the ends are not in step, the ends are in
+/// agreement after the longest time of a frame for each move that suffices, that of T200 for each
+/// T200 and T203, and that of T203 for each T203: `most_time` adds them up.
+pub fn every_world_comes_back_in_time()
+    ensures { (r : Reading) (n200 : ℕ) → 1 ≤ n200 → (user network : Parameters)
+        → user.k ≤ 127 → network.k ≤ 127 → 1 ≤ user.k → 1 ≤ network.k → (moves : List Move)
+        → IsFreeWorld n200 (run r moves (new_world user network))
+        → ComesBackInTime r n200 (run r moves (new_world user network)) }
+{}
+
+/// Without a premise of these laws moves go round: they can be repeated for ever, and the ends
+/// never agree. On whole numbers and on tags: a message is sent and lost again and again; T203
+/// expires early again and again, before T200 of the peer in state 5; and an own busy end answers
+/// each poll by an RNR.
+pub fn rounds_are_computed()
+    ensures losses_go_on { (r : Reading) → IsRound r 1 0 one_sent idle_end message_lost_again
+        (run r losses_go_on least_pair) }
+    ensures t203s_go_on { (r : Reading) → IsRound r 0 1 idle_end in_state_5 t203_again
+        (run r t203s_go_on least_pair) }
+    ensures busy_goes_on { (r : Reading) → IsRound r 0 0 one_waits
+        (record idle_end { own_busy = true }) polled_again (run r busy_goes_on least_pair) }
+{}
+
+/// Runs that meet the premises of these laws are within their bounds, on whole numbers and on tags:
+/// T200 expires beside messages in transit 11 times; T203 expires early four times; and a SABME
+/// that is lost is sent again after 1,000 ms. With frames that take 20 ms, T200 of 1,000 ms, T203
+/// of 10,000 ms and an N200 of one, the bound of that time is 131,840 ms.
+pub fn runs_in_any_time_are_computed()
+    ensures t200s { (r : Reading) → IsFreeWorld 1 (run r eight_wait least_pair)
+        × (all_admitted r t200_beside_frames (run r eight_wait least_pair) ≡ true)
+        × (outcome_of_free r t200_beside_frames (run r eight_wait least_pair)
+        ≡ record { made = 11; most = 820; early = 0; outcome = both_in_7 48 8 0 }) }
+    ensures t203s { (r : Reading) → IsFreeWorld 1 (run r network_sabme_lost least_pair)
+        × (all_admitted r t203_before_t200 (run r network_sabme_lost least_pair) ≡ true)
+        × (outcome_of_free r t203_before_t200 (run r network_sabme_lost least_pair)
+        ≡ record { made = 8; most = 132; early = 4; outcome = t203_counted }) }
+    ensures in_time { (r : Reading)
+        → MeetsTime r 131841 131840 establishes_late (run r sabme_lost least_pair) }
 {}
 
 /// Runs with early timers are bounded as expected, on whole numbers and on tags. The first two pass

@@ -1,0 +1,5 @@
+use Rattle.lapd_recovery_laws.proofs.FreeAfterRuns.{every_world_comes_back_whenever_timers_expire}
+use Rattle.lapd_recovery_laws.proofs.recovery.every_world_comes_back_whenever_timers_expire.Goals as goal
+
+pub returns : goal.returns
+returns c = every_world_comes_back_whenever_timers_expire
