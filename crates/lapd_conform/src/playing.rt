@@ -2,7 +2,9 @@
 
 use crate::outcome::{Doubt, Outcome, Played};
 use lapd_conform_judge::{Judgement, Params, Sapi, Setup, Tei, Verdict, judge, verdict_on};
-use lapd_conform_player::{Case, Group, Lost, Performance, Reason, Stack, Station, lack, perform};
+use lapd_conform_player::{
+    Case, Group, Lost, Performance, Preamble, Reason, Stack, Station, lack, perform,
+};
 use std::alloc::Global;
 
 /// How late frames may be, in milliseconds, if TEI management is judged: no timer must expire
@@ -15,7 +17,7 @@ const ROOM: u16 = 256;
 /// What is kept between the cases of one stack.
 #[derive(Clone, Copy)]
 pub struct Session {
-    /// The TEI that the network side assigned to the tester.
+    /// The TEI of the link in the last case that tested it, if it was reached there.
     tei: Option<u8>,
 }
 
@@ -76,14 +78,26 @@ fn play_once<S: Station>(
     case: &Case<'_>,
 ) -> Result<Played, Lost> {
     let performance = perform(alloc, station, stack, session.tei, case)?;
-    let is_network = matches!(stack.side, lapd_conform_judge::Side::Network);
-    session.tei = if is_network && case.tests_link() {
-        performance.tei
-    } else {
-        session.tei
-    };
+    session.tei = kept_tei(stack, session.tei, case, &performance);
     let judged = judged_performance(alloc, stack, case, &performance)?;
     Ok(played(performance, judged))
+}
+
+/// The TEI of the link after a case: the one that it had, unless the stack did not answer for it, or
+/// the case tested TEI management of a terminal, which may have another one or none then.
+fn kept_tei(
+    stack: &Stack,
+    tei: Option<u8>,
+    case: &Case<'_>,
+    performance: &Performance,
+) -> Option<u8> {
+    let is_network = matches!(stack.side, lapd_conform_judge::Side::Network);
+    match performance.reason {
+        Some(Reason::NotReached(Preamble::TeiAssigned)) => None,
+        _ if case.tests_link() => performance.tei,
+        _ if is_network => tei,
+        _ => None,
+    }
 }
 
 /// The result of a case that was played once.

@@ -40,6 +40,8 @@ pub(crate) struct Candidate {
     spare: bool,
     /// It took an I frame out of sequence with P=1.
     repeats: bool,
+    /// The N(S) of the last I frame when T200 expired last, if it was not acknowledged.
+    last: Option<u8>,
 }
 
 impl Candidate {
@@ -61,6 +63,7 @@ impl Candidate {
                 earliest: 0,
                 spare: false,
                 repeats: false,
+                last: None,
             })),
             None => Ok(None),
         }
@@ -90,6 +93,7 @@ impl Candidate {
                 earliest: self.earliest,
                 spare: self.spare,
                 repeats: self.repeats,
+                last: self.last,
             })),
             None => Ok(None),
         }
@@ -111,6 +115,7 @@ impl Candidate {
             && self.t203.is_some() == other.t203.is_some()
             && self.spare == other.spare
             && self.repeats == other.repeats
+            && self.last == other.last
             && self.owed.as_slice() == other.owed.as_slice()
     }
 
@@ -317,6 +322,9 @@ impl Candidate {
     fn take(&mut self, dialogue: &Dialogue<'_>, step: Move, now: u64) -> Result<(), AllocError> {
         self.repeats = self.is_repeated(dialogue, step);
         self.facts = self.run.facts();
+        if matches!(step, Move::T200) {
+            self.last = self.facts.last();
+        }
         let until = self.since_of(step, now);
         for place in 0..self.run.outs.len() {
             if let Some(out) = self.output(place) {
@@ -418,7 +426,7 @@ impl Candidate {
     /// The place of the frame among those that it owes. Messages keep their order.
     fn place_of(&self, seen: &Owed) -> Option<usize> {
         for place in 0..self.owed.len() {
-            if self.owed[place].is_met_by(seen, self.repeats) {
+            if self.owed[place].is_met_by(seen, self.last, self.repeats) {
                 return Some(place);
             }
             if seen.is_message() && self.owed[place].is_message() {

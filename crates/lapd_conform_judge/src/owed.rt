@@ -47,9 +47,27 @@ impl Owed {
         matches!(self.control, Control::I { .. })
     }
 
-    /// Whether a frame that was received is right in the place of this one. `repeats` allows a REJ
-    /// in place of the RR with F=1 that answers an I frame out of sequence (Q.921 Appendix I).
-    pub fn is_met_by(&self, seen: &Owed, repeats: bool) -> bool {
+    /// Whether it is an enquiry: RR or RNR as a command with P=1.
+    fn is_enquiry(&self) -> bool {
+        self.role == Role::Command
+            && matches!(
+                self.control,
+                Control::Rr { pf: true, .. } | Control::Rnr { pf: true, .. }
+            )
+    }
+
+    /// Whether it is an I frame with P=1 and this N(S).
+    fn is_poll_of(&self, last: Option<u8>) -> bool {
+        match self.control {
+            Control::I { ns, p: true, .. } => last == Some(ns.value()),
+            _ => false,
+        }
+    }
+
+    /// Whether a frame that was received is right in the place of this one. `last` is the N(S) of the
+    /// I frame that may take the place of an enquiry (Q.921 5.6.7). `repeats` allows a REJ in place
+    /// of the RR with F=1 that answers an I frame out of sequence (Q.921 Appendix I).
+    pub fn is_met_by(&self, seen: &Owed, last: Option<u8>, repeats: bool) -> bool {
         if self == seen {
             return true;
         }
@@ -59,6 +77,7 @@ impl Owed {
         let is_again = repeats && self.role == seen.role;
         (self.is_ready(false) && seen.is_ready(false))
             || (is_again && self.is_ready(true) && seen.is_reject())
+            || (self.is_enquiry() && seen.is_poll_of(last))
     }
 
     /// Whether it has N(R).

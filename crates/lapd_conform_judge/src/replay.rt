@@ -47,6 +47,15 @@ impl Facts {
     pub fn vr(&self) -> Seq {
         self.window.vr()
     }
+
+    /// The N(S) of the last I frame, V(S) - 1, if it is not acknowledged.
+    pub fn last(&self) -> Option<u8> {
+        if self.window.vs() == self.window.va() {
+            None
+        } else {
+            Some(self.window.vs().value().wrapping_add(127) % 128)
+        }
+    }
 }
 
 /// A dialogue, and where its links are allocated.

@@ -60,8 +60,8 @@ pub fn perform<S: Station>(
     let is_fresh = station.restart()?;
     let kept = if is_fresh { None } else { tei };
     let values = Values::new(*stack, stack.tei.or(kept).unwrap_or(GROUP));
-    let mut player = Player::new(alloc, values, !case.tests_link(), case.lines);
-    let reason = match run(station, &mut player, is_fresh) {
+    let mut player = Player::new(alloc, values, !case.tests_link(), is_fresh, case.lines);
+    let reason = match run(station, &mut player) {
         Ok(()) if player.is_late => Some(Reason::Late),
         Ok(()) => None,
         Err(Stop::Missed(reason)) => Some(reason),
@@ -79,10 +79,11 @@ pub fn perform<S: Station>(
     })
 }
 
-/// Plays the lines. A stack that was not started anew first releases the link.
-fn run<S: Station>(station: &mut S, player: &mut Player<'_>, is_fresh: bool) -> Result<(), Stop> {
-    if !is_fresh && !player.tests_tei {
+/// Plays the lines. A stack that was not started anew first releases the link, if it has one.
+fn run<S: Station>(station: &mut S, player: &mut Player<'_>) -> Result<(), Stop> {
+    if !player.is_fresh && (!player.tests_tei || player.tei().is_some()) {
         player.reach(station, Preamble::TeiAssigned)?;
+        player.calm(station)?;
         player.forget();
     }
     player.run(station)

@@ -30,6 +30,8 @@ pub(crate) struct Player<'s> {
     pub values: Values,
     /// Whether TEI management is what the case tests.
     pub tests_tei: bool,
+    /// Whether the stack was started anew for the case.
+    pub is_fresh: bool,
     /// All frames and requests of the case.
     pub happenings: Vec<Happening>,
     /// The number of the line that is executed.
@@ -38,6 +40,8 @@ pub(crate) struct Player<'s> {
     pub is_late: bool,
     /// A request was made after the last frame.
     pub has_asked: bool,
+    /// The stack answered the last DISC by UA: the link was not in state 4.
+    pub was_linked: bool,
     /// By how much the stack has answered late at most, in milliseconds.
     pub latency: u64,
     lines: &'s [NumberedLine<'s>],
@@ -71,16 +75,19 @@ impl<'s> Player<'s> {
         alloc: Global,
         values: Values,
         tests_tei: bool,
+        is_fresh: bool,
         lines: &'s [NumberedLine<'s>],
     ) -> Player<'s> {
         Player {
             alloc,
             values,
             tests_tei,
+            is_fresh,
             happenings: Vec::new(alloc),
             line: 0,
             is_late: false,
             has_asked: false,
+            was_linked: false,
             latency: 0,
             lines,
             place: 0,

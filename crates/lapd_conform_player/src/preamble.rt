@@ -88,13 +88,64 @@ impl Player<'_> {
                     Role::Answer,
                     UA,
                 )?,
-                Some((Role::Answer, Kind::UnnumberedAcknowledgement | Kind::DisconnectedMode, true))
-                    if !crossed => return Ok(true),
+                Some((Role::Answer, Kind::UnnumberedAcknowledgement, true)) if !crossed => {
+                    self.was_linked = true;
+                    return Ok(true);
+                }
+                Some((Role::Answer, Kind::DisconnectedMode, true)) if !crossed => {
+                    self.was_linked = false;
+                    return Ok(true);
+                }
                 Some(_) => {}
                 None => return Ok(false),
             }
         }
         Ok(false)
+    }
+
+    /// State 4 after a DISC was answered, whatever the case before has left. After UA the link may
+    /// await its own release (state 6); then the next DISC is answered by UA again. After DM it may
+    /// await its establishment (state 5). Its frames are answered until none comes for T200. If layer
+    /// 3 of the stack acts by itself, frames may come for ever, and nothing is done.
+    pub fn calm<S: Station>(&mut self, station: &mut S) -> Result<(), Stop> {
+        if self.values.stack.is_active {
+            return Ok(());
+        }
+        if self.was_linked {
+            self.send_octets(station, Role::Command, DISC)?;
+            if self.is_released(station)? && !self.was_linked {
+                return Ok(());
+            }
+        }
+        for _turn in 0..MOST_FRAMES {
+            if !self.answers_request(station)? {
+                return Ok(());
+            }
+        }
+        missed(Preamble::TeiAssigned)
+    }
+
+    /// Answers the next SABME by DM, and the next DISC by UA. `false` if none comes for T200.
+    fn answers_request<S: Station>(&mut self, station: &mut S) -> Result<bool, Stop> {
+        let wait = self
+            .duration(Timer::T200)
+            .saturating_add(self.slack(station));
+        let until = self.later(station, wait);
+        for _turn in 0..MOST_FRAMES {
+            match self.next_kind(station, until)? {
+                Some((Role::Command, Kind::Sabme, _)) => {
+                    self.send_octets(station, Role::Answer, DM)?;
+                    return Ok(true);
+                }
+                Some((Role::Command, Kind::Disconnect, _)) => {
+                    self.send_octets(station, Role::Answer, UA)?;
+                    return Ok(true);
+                }
+                Some(_) => {}
+                None => return Ok(false),
+            }
+        }
+        Ok(true)
     }
 
     /// Waits until no frame of the stack is in transit.
@@ -219,6 +270,10 @@ impl Player<'_> {
             if self.await_kind(station, time, Role::Command, Kind::Sabme)? {
                 return Ok(());
             }
+            // Other cases test how the stack takes this frame, so the dialogue begins anew.
+            self.release(station)?;
+            self.calm(station)?;
+            self.forget();
         }
         missed(Preamble::LineEstablishes)
     }
@@ -276,6 +331,11 @@ impl Player<'_> {
         if station.restart()? {
             return Ok(());
         }
+        self.remove_all(station)
+    }
+
+    /// Removes all TEIs, twice, since a frame may be lost (Q.921 5.3.4).
+    fn remove_all<S: Station>(&mut self, station: &mut S) -> Result<(), Stop> {
         self.send_management(station, 6, 0, GROUP)?;
         self.send_management(station, 6, 0, GROUP)?;
         self.drain(station)
@@ -308,8 +368,12 @@ impl Player<'_> {
         missed(Preamble::TeiAssigned)
     }
 
-    /// The tester assigns a TEI to a terminal that requests one.
+    /// The tester assigns a TEI to a terminal that requests one. A terminal that was not started anew
+    /// may have one, which is removed first.
     fn assign_tei<S: Station>(&mut self, station: &mut S) -> Result<(), Stop> {
+        if !self.is_fresh {
+            self.remove_all(station)?;
+        }
         if self.values.stack.requests.ask {
             self.ask_of_link(station, Request::Ask)?;
         }
