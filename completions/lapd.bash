@@ -1,13 +1,13 @@
 # Completion of lapd's commands, options and their words for bash.
 _lapd() {
     local word=${COMP_WORDS[COMP_CWORD]} before=${COMP_WORDS[COMP_CWORD - 1]} offered
-    local commands="answer bus pair loop net user decode"
+    local commands="answer bus pair loop net user decode conform"
     COMPREPLY=()
     # bash cuts --side=net at the equals sign
     [[ $word == "=" ]] && word=
     [[ $before == "=" ]] && before=${COMP_WORDS[COMP_CWORD - 2]}
     case $before in
-        --side | --sender) offered="net user" ;;
+        --side | --sender | --of) offered="net user" ;;
         --sapi) [[ ${COMP_WORDS[1]} == decode ]] && return; offered="0 16" ;;
         --recovery | --recovery-user | --recovery-net) offered="enquiry last" ;;
         --clock) offered="script real" ;;
@@ -20,9 +20,10 @@ _lapd() {
                 return
             fi
             ;;
-        --pcap | --svg | --html | --write) mapfile -t COMPREPLY < <(compgen -f -- "$word"); return ;;
+        --pcap | --svg | --html | --write | --stack | --suite | --junit) mapfile -t COMPREPLY < <(compgen -f -- "$word"); return ;;
         --tei | --k | --n200 | --room | --terminals | --idle-limit | --audit | --t20? | --seed | --count | --call | --span) return ;;
-        --listen | --connect | --gsmtap) return ;;
+        --report) mapfile -t COMPREPLY < <(compgen -d -- "$word"); return ;;
+        --listen | --connect | --gsmtap | --upper | --cases) return ;;
     esac
     if [[ -z $offered && ${COMP_WORDS[1]} == decode && $word != -* ]]; then
         mapfile -t COMPREPLY < <(compgen -f -- "$word")
@@ -34,6 +35,10 @@ _lapd() {
         else
             offered="--strict --help"
             case ${COMP_WORDS[1]} in
+                conform)
+                    offered="--connect --listen --of --stack --upper --cases --suite --anew --report --junit --json"
+                    offered+=" --print --help"
+                    ;;
                 answer) offered+=" --side --sapi --tei --k --n200 --room --recovery" ;;
                 bus) offered+=" --terminals --links --ladder" ;;
                 pair) offered+=" --k --n200 --room --recovery-user --recovery-net --ladder" ;;

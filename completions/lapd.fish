@@ -8,8 +8,8 @@ function __lapd_option --description "Adds an option of these commands, a list i
 end
 
 complete -c lapd -f
-complete -c lapd -n __lapd_runs -a "answer bus pair loop net user decode help"
-complete -c lapd -n "__lapd_runs help" -a "answer bus pair loop net user decode"
+complete -c lapd -n __lapd_runs -a "answer bus pair loop net user decode conform help"
+complete -c lapd -n "__lapd_runs help" -a "answer bus pair loop net user decode conform"
 complete -c lapd -n __lapd_runs -s V -l version -d "Print the version"
 complete -c lapd -n "not __lapd_runs help" -s h -l help -d "Print help"
 __lapd_option "answer bus pair loop net user decode" strict -d "End with status 5 if a line was refused"
@@ -72,4 +72,16 @@ __lapd_option decode kinds -x -a "i s u" -d "Print frames of these kinds"
 __lapd_option decode no-polls -d "Leave out RR, RNR and REJ with P or F 1"
 __lapd_option decode any-sapi -d "Print frames of all SAPIs"
 __lapd_option decode color -x -a "auto always never" -d "Print lines in colors"
+__lapd_option conform connect -x -d "Connect to the stack"
+__lapd_option conform listen -x -d "Wait for the stack"
+__lapd_option conform of -x -a "net user" -d "Side that is tested"
+__lapd_option conform stack -r -F -d "Parameters of the stack"
+__lapd_option conform upper -x -d "Connect to the upper tester"
+__lapd_option conform cases -x -d "Play cases with such names"
+__lapd_option conform suite -r -F -d "Play this suite"
+__lapd_option conform anew -d "Connect again for each case"
+__lapd_option conform report -r -F -d "Write frames of failed cases into this folder"
+__lapd_option conform junit -r -F -d "Write JUnit XML"
+__lapd_option conform json -d "Print JSON objects"
+__lapd_option conform print -d "Print the cases"
 functions -e __lapd_option

@@ -126,9 +126,9 @@ fn run_side<R: Read, W: Write>(
     }
 }
 
-// An address with a host. Without one, `net` listens on all addresses of this host, and `user`
-// connects to this host.
-fn with_host(alloc: Global, side: Side, address: &str) -> Result<String, AllocError> {
+/// An address with a host. Without one, `net` listens on all addresses of this host, and `user`
+/// connects to this host.
+pub fn with_host(alloc: Global, side: Side, address: &str) -> Result<String, AllocError> {
     let host = match (address.starts_with(":"), side) {
         (false, _) => "",
         (true, Side::Network) => "0.0.0.0",

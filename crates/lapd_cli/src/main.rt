@@ -3,8 +3,9 @@
 //! - executes a script on one end of a link of the ISDN D channel (ITU-T Q.921),
 //! - simulates two ends and the line between them, also over a socket,
 //! - runs a whole side of an interface over a socket,
-//! - assigns TEIs on a bus of terminals, or
-//! - prints octets as trace lines.
+//! - assigns TEIs on a bus of terminals,
+//! - prints octets as trace lines, or
+//! - tests the conformance of another stack.
 //!
 //! The program reads a script on standard input, a line for each event, and writes the output of
 //! each line to standard output before it reads more. The commands are in `lapd_cli_link_commands`
@@ -13,6 +14,7 @@
 #![tactic(auto)]
 
 mod capture;
+mod conform;
 mod console_notes;
 mod ending;
 mod files;
@@ -23,12 +25,13 @@ mod log;
 mod output;
 
 use capture::run_capture;
+use conform::run_conform;
 use ending::{Ending, Stop, print_ending, print_memory, print_no_invocation, print_words_fault};
 use files::run_files;
 use greeting::Greeting;
 use job::{run_job, script_of};
 use lapd_cli_console::{FaultReport, PrintedAnswers, RecentLines, Refusals, Session, Watched};
-use lapd_cli_options::{Clock, DecodeOptions, Invocation, Job, parse_words, words};
+use lapd_cli_options::{Chosen, Clock, DecodeOptions, Invocation, Job, parse_words, words};
 use lapd_cli_script::ScriptFault;
 use output::{Output, Text, begin_text, close_output, end_text, output_of};
 use std::io::{BufWriter, IsTerminal, Read, Write};
@@ -40,7 +43,8 @@ fn main(rt: HostRuntime) -> ExitCode {
         Err(fault) => return print_words_fault(&rt, fault),
     };
     match parse_words(rt.alloc(), words.as_slice()) {
-        Ok(chosen) => run_chosen(&rt, &for_input(&rt, chosen)),
+        Ok(Chosen::Script(chosen)) => run_chosen(&rt, &for_input(&rt, chosen)),
+        Ok(Chosen::Conform(conformance)) => run_conform(&rt, &conformance),
         Err(unchosen) => print_no_invocation(&rt, &unchosen),
     }
 }

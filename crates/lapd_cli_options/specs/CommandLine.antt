@@ -6,6 +6,8 @@ use Rattle.lapd_link_definition.specs.declared.recovery.Recovery.TheVariants.{En
 use Rattle.lapd_link_definition.specs.Parameters.{Parameters}
 use Rattle.lapd_cli_values.specs.declared.link_end.LinkEnd.{LinkEnd}
 use Rattle.lapd_cli_options.specs.declared.invocation.Invocation.{Invocation}
+use Rattle.lapd_cli_options.specs.declared.invocation.Chosen.{Chosen}
+use Rattle.lapd_cli_options.specs.declared.invocation.Chosen.TheVariants as choice
 use Rattle.lapd_cli_options.specs.declared.invocation.Clock.{Clock}
 use Rattle.lapd_cli_options.specs.declared.invocation.Clock.TheVariants.{Script, Real}
 use Rattle.lapd_cli_options.specs.declared.invocation.LiveOptions.{LiveOptions}
@@ -40,6 +42,11 @@ pub record IsDefault (chosen : Invocation) : Type 0 where
   pub clock : chosen.clock ≡ Script
   pub json : chosen.json ≡ false
   pub strict : chosen.strict ≡ false
+
+-- a script of this command is executed
+abbrev pub IsDefaultChoice : Chosen → Type 0
+IsDefaultChoice (choice.Script chosen) = IsDefault chosen
+IsDefaultChoice other = ⊥
 
 -- ---- `net` and `user` at a terminal.
 

@@ -15,10 +15,14 @@ pub(crate) enum CommandOption {
     Flag(&'static str, &'static str),
     /// An option with a file: its name and its help text.
     File(&'static str, &'static str),
+    /// An option with a folder: its name and its help text.
+    Folder(&'static str, &'static str),
     /// Files without an option's name, of any number.
     Files,
     /// An option with the name of a span: its name and its help text.
     Span(&'static str, &'static str),
+    /// An option with a pattern, which may be repeated: its name and its help text.
+    Patterns(&'static str, &'static str),
     /// An option with one of a few words.
     Word(WordOption),
     /// An option with one of a few words and no default.
@@ -58,8 +62,12 @@ pub(crate) fn arg_of<'a>(alloc: Global, option: &CommandOption) -> Arg<'a> {
     match option {
         CommandOption::Flag(name, help) => flag(alloc, name, help),
         CommandOption::File(name, help) => value_arg(alloc, name, "FILE", help),
+        CommandOption::Folder(name, help) => value_arg(alloc, name, "DIR", help),
         CommandOption::Files => files_arg(alloc),
         CommandOption::Span(name, help) => value_arg(alloc, name, "SPAN", help),
+        CommandOption::Patterns(name, help) => {
+            value_arg(alloc, name, "PATTERN", help).action(ArgAction::Append)
+        }
         CommandOption::Word(option) => word_arg(alloc, option),
         CommandOption::BareWord(option) => bare_word_arg(alloc, option),
         CommandOption::Words(option) => words_arg(alloc, option),

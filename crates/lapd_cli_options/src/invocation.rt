@@ -1,10 +1,20 @@
 ghost use Rattle.std.specs.Prelude.{◌≡◌};
 ghost use Rattle.lapd_cli_options.specs.CommandLine.{IsDefault, terminal_clock, time_in_capture, typed_invocation};
 
+use crate::conform_options::Conformance;
 use lapd_cli_values::{Filter, Interface, LinkEnd, Params, Sapi, Side, Tei};
 use std::alloc::Global;
 
 /// The meaning of the program's words.
+#[derive(Drop)]
+pub enum Chosen<'a> {
+    /// Execute a script.
+    Script(Invocation<'a>),
+    /// Test the conformance of a stack.
+    Conform(Conformance<'a>),
+}
+
+/// A command that executes a script, with its options.
 #[derive(Drop)]
 pub struct Invocation<'a> {
     /// The program's job.

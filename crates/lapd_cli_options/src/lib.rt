@@ -5,12 +5,14 @@
 #![tactic(auto)]
 
 ghost use Rattle.std.specs.Prelude.{◌<◌, length, IsOkAnd};
-ghost use Rattle.lapd_cli_options.specs.CommandLine.{IsDefault};
+ghost use Rattle.lapd_cli_options.specs.CommandLine.{IsDefaultChoice};
 
 mod clock_options;
 pub mod command_help;
 mod command_option;
 mod command_options;
+pub mod conform_help;
+mod conform_options;
 pub mod decode_help;
 mod decode_options;
 pub mod help;
@@ -25,10 +27,12 @@ mod tips;
 use clap::{ArgMatches, Command};
 use clock_options::{clock_of, is_clock_open};
 use command_options::{address_of, file_of, job_of, prints_json, span_of};
+use conform_options::conformance_of;
+pub use conform_options::{CaseChoice, Conformance, StackTest};
 use decode_options::files_of;
 pub use invocation::{
-    Clock, Color, DecodeOptions, FollowOptions, Invocation, Job, LiveOptions, PrintedLayout,
-    PrintedTime,
+    Chosen, Clock, Color, DecodeOptions, FollowOptions, Invocation, Job, LiveOptions,
+    PrintedLayout, PrintedTime,
 };
 pub use lapd_cli_values::{
     Durations, Filter, Interface, LinkEnd, OutOfRange, Params, Recovery, Sapi, Side, Tei,
@@ -50,31 +54,32 @@ use tips::with_tip;
 ///
 /// - `Shown` if the words request help or the version;
 /// - `Refused`, `OutOfRange`, `NotReal`, `NotFollowed`, `NotLinks`, `NotNamed`, `NotCaptured`,
-///   `PcapAndFile`, `OneFile`, `NotBoth`, `NotKinds` or `OneConnection` if they are not valid;
+///   `PcapAndFile`, `OneFile`, `NotBoth`, `NotKinds`, `OneConnection`, `NoSide` or `NoAddress` if
+///   they are not valid;
 /// - `Memory` if an allocation fails.
 pub fn parse_words<'a, S: AsStr>(
     alloc: Global,
     words: &'a [S],
-) -> Result<Invocation<'a>, NoInvocation<'a>>
-    ensures { length words.now < 2 → IsOkAnd result (λ chosen. IsDefault chosen) }
+) -> Result<Chosen<'a>, NoInvocation<'a>>
+    ensures { length words.now < 2 → IsOkAnd result (λ chosen. IsDefaultChoice chosen) }
 {
     if words.len() < 2 {
-        return Ok(Invocation::by_no_word(alloc));
+        return Ok(Chosen::Script(Invocation::by_no_word(alloc)));
     }
     match program(alloc) {
-        Ok(mut program) => invocation_of(alloc, &mut program, words),
+        Ok(mut program) => chosen_of(alloc, &mut program, words),
         Err(_) => Err(NoInvocation::Memory),
     }
 }
 
 // The meaning of the words, read by this parser.
-fn invocation_of<'a, S: AsStr>(
+fn chosen_of<'a, S: AsStr>(
     alloc: Global,
     program: &mut Command<'a>,
     words: &'a [S],
-) -> Result<Invocation<'a>, NoInvocation<'a>> {
+) -> Result<Chosen<'a>, NoInvocation<'a>> {
     match program.try_get_matches_from_mut(words) {
-        Ok(matches) => invocation_by(alloc, program, &matches),
+        Ok(matches) => chosen_by(alloc, program, &matches),
         Err(error) => {
             let refused = refused_by_parser(alloc, &error);
             Err(with_tip(alloc, command_in(words), refused))
@@ -91,19 +96,39 @@ fn command_in<S: AsStr>(words: &[S]) -> &str {
 }
 
 // The meaning of the parsed words.
-fn invocation_by<'a>(
+fn chosen_by<'a>(
     alloc: Global,
     program: &mut Command<'a>,
     matches: &ArgMatches<'a>,
-) -> Result<Invocation<'a>, NoInvocation<'a>> {
+) -> Result<Chosen<'a>, NoInvocation<'a>> {
     match matches.subcommand() {
+        Some((name, given)) if name == conform_options::NAME => conform_by(alloc, given),
         Some((name, given)) => match ScriptCommand::named(name) {
-            Some(command) => {
-                invocation_with(alloc, job_of(alloc, command, given)?, command, given)
-            },
+            Some(command) => script_by(alloc, command, given),
             None => Err(unknown_command(alloc, program, name)),
         },
         None => Err(unknown_command(alloc, program, "")),
+    }
+}
+
+// The meaning of the options of `conform`.
+fn conform_by<'a>(alloc: Global, given: &ArgMatches<'a>) -> Result<Chosen<'a>, NoInvocation<'a>> {
+    match conformance_of(alloc, given) {
+        Ok(conformance) => Ok(Chosen::Conform(conformance)),
+        Err(fault) => Err(fault),
+    }
+}
+
+// The meaning of the options of a command that executes a script.
+fn script_by<'a>(
+    alloc: Global,
+    command: ScriptCommand,
+    given: &ArgMatches<'a>,
+) -> Result<Chosen<'a>, NoInvocation<'a>> {
+    let job = job_of(alloc, command, given)?;
+    match invocation_with(alloc, job, command, given) {
+        Ok(invocation) => Ok(Chosen::Script(invocation)),
+        Err(fault) => Err(fault),
     }
 }
 

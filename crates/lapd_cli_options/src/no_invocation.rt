@@ -12,7 +12,8 @@ pub enum NoInvocation<'a> {
     Shown(String),
     /// The parser refuses them, for the reason in this text. The text is for standard error, and
     /// the exit status is 2, as for `OutOfRange`, `NotReal`, `NotFollowed`, `NotLinks`, `NotNamed`,
-    /// `NotCaptured`, `PcapAndFile`, `OneFile`, `NotBoth`, `NotKinds` and `OneConnection`.
+    /// `NotCaptured`, `PcapAndFile`, `OneFile`, `NotBoth`, `NotKinds`, `OneConnection`, `NoSide` and
+    /// `NoAddress`.
     Refused(String),
     /// A number that is not in the range of its option.
     OutOfRange(OutOfRange<'a>),
@@ -37,6 +38,10 @@ pub enum NoInvocation<'a> {
     NotBoth(&'static str, &'static str),
     /// `--audit` is present, but the side accepts no connection after the first.
     OneConnection,
+    /// `--of` is absent, and cases are not printed.
+    NoSide,
+    /// `--connect` and `--listen` are absent, and cases are not printed.
+    NoAddress,
     /// An allocation failed.
     Memory,
 }
@@ -77,6 +82,12 @@ impl fmt::Display for NoInvocation<'_> {
             NoInvocation::OneConnection => {
                 f.write_str("error: --audit requires --keep or --terminals above 1\n")
             }
+            NoInvocation::NoSide => {
+                f.write_str("error: --of net or --of user is required: the side that is tested\n")
+            }
+            NoInvocation::NoAddress => f.write_str(
+                "error: --connect ADDRESS or --listen ADDRESS of the stack is required\n",
+            ),
             NoInvocation::Memory => f.write_str("out of memory\n"),
         }
     }

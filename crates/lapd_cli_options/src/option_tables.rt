@@ -2,11 +2,11 @@
 //! groups are shared.
 
 use crate::command_option::{CommandOption, WordOption};
-use crate::help;
+use crate::{conform_help, help};
 use lapd_cli_values::{
-    AUDIT, CONNECT, CONNECTED_TERMINALS, COUNT, FIXED_TEI, FOLLOWED_K, GSMTAP, IDLE_LIMIT, K,
-    KNOWN_TEI, LINK_TEI, LINKS_K, LISTEN, N200, PRINTED_CALL, PRINTED_SAPI, PRINTED_TEI, ROOM,
-    SEED, T200, T201, T202, T203, TERMINALS,
+    AUDIT, AddressOption, CONNECT, CONNECTED_TERMINALS, COUNT, FIXED_TEI, FOLLOWED_K, GSMTAP,
+    IDLE_LIMIT, K, KNOWN_TEI, LINK_TEI, LINKS_K, LISTEN, N200, PRINTED_CALL, PRINTED_SAPI,
+    PRINTED_TEI, ROOM, SEED, T200, T201, T202, T203, TERMINALS,
 };
 
 /// The options of `answer`.
@@ -107,7 +107,23 @@ pub(crate) const DECODE: &[&[CommandOption]] = &[
     ],
 ];
 
-/// The option that all commands have.
+/// The options of `conform`.
+pub(crate) const CONFORM: &[&[CommandOption]] = &[&[
+    CommandOption::Address(STACK_CONNECT),
+    CommandOption::Address(STACK_LISTEN),
+    CommandOption::BareWord(OF),
+    CommandOption::File("stack", conform_help::STACK),
+    CommandOption::Address(UPPER),
+    CommandOption::Patterns("cases", conform_help::CASES),
+    CommandOption::File("suite", conform_help::SUITE),
+    CommandOption::Flag("anew", conform_help::ANEW),
+    CommandOption::Folder("report", conform_help::REPORT),
+    CommandOption::File("junit", conform_help::JUNIT),
+    CommandOption::Flag("json", conform_help::JSON),
+    CommandOption::Flag("print", conform_help::PRINT),
+]];
+
+/// The option that all commands with a script have.
 const EACH: &[CommandOption] = &[CommandOption::Flag("strict", help::STRICT)];
 
 /// The numbers of a link's parameters.
@@ -234,4 +250,30 @@ const CLOCK: WordOption = WordOption {
     help: help::CLOCK,
     words: &["script", "real"],
     default: "",
+};
+
+/// The address at which the stack under test listens.
+pub(crate) const STACK_CONNECT: AddressOption = AddressOption {
+    name: "connect",
+    help: conform_help::CONNECT,
+};
+
+/// The address to which the stack under test connects.
+pub(crate) const STACK_LISTEN: AddressOption = AddressOption {
+    name: "listen",
+    help: conform_help::LISTEN,
+};
+
+/// The address at which the upper tester listens.
+pub(crate) const UPPER: AddressOption = AddressOption {
+    name: "upper",
+    help: conform_help::UPPER,
+};
+
+/// The side that is tested.
+const OF: WordOption = WordOption {
+    name: "of",
+    help: conform_help::OF,
+    default: "",
+    ..SIDE
 };

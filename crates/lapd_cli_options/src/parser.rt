@@ -1,9 +1,9 @@
 //! The parser of the program's words: its commands, their options, and the help texts.
 
 use crate::command_option::{CommandOption, arg_of};
-use crate::help;
 use crate::no_invocation::{NoInvocation, refused_by_parser};
 use crate::script_command::{COMMANDS, ScriptCommand};
+use crate::{conform_help, conform_options, help, option_tables};
 use clap::error::ErrorKind;
 use clap::{Arg, ArgMatches, Command, Error};
 use std::alloc::{AllocError, Global};
@@ -53,6 +53,9 @@ fn near_command(alloc: Global, word: &str) -> Result<Option<&'static str>, Alloc
             return Ok(Some(command.name()));
         }
     }
+    if osa_distance(alloc, word, conform_options::NAME)? <= word.len() / 3 {
+        return Ok(Some(conform_options::NAME));
+    }
     Ok(None)
 }
 
@@ -88,7 +91,23 @@ fn push_commands<'a>(alloc: Global, commands: &mut Vec<Command<'a>>) -> Result<(
     for command in COMMANDS {
         push_command(alloc, commands, command)?;
     }
+    push_conform(alloc, commands)
+}
+
+fn push_conform<'a>(alloc: Global, commands: &mut Vec<Command<'a>>) -> Result<(), AllocError> {
+    commands.push(conform(alloc)?)?;
     Ok(())
+}
+
+// The command `conform`, which reads no script.
+fn conform<'a>(alloc: Global) -> Result<Command<'a>, AllocError> {
+    let mut args = Vec::new(alloc);
+    push_groups(alloc, &mut args, option_tables::CONFORM)?;
+    let command = Command::new(alloc, conform_options::NAME)
+        .about(conform_help::ABOUT)
+        .after_help(conform_help::SHORT)
+        .after_long_help(conform_help::CONFORM);
+    with_args(command, args)
 }
 
 fn push_command<'a>(

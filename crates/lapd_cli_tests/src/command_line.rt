@@ -4,8 +4,9 @@ mod words;
 
 use crate::scenarios::words_of;
 use lapd_cli_options::{
-    Clock, Color, DecodeOptions, Durations, Filter, FollowOptions, Interface, Invocation, Job,
-    NoInvocation, Params, PrintedLayout, PrintedTime, Recovery, Side, help, parse_words,
+    CaseChoice, Chosen, Clock, Color, Conformance, DecodeOptions, Durations, Filter, FollowOptions,
+    Interface, Invocation, Job, NoInvocation, Params, PrintedLayout, PrintedTime, Recovery, Side,
+    help, parse_words,
 };
 use lapd_cli_script::{PortFault, ScriptFault};
 use lapd_timers::Timer;
@@ -304,7 +305,22 @@ lapd net --listen 127.0.0.1:4000 --t201 3600001 => error: invalid value '3600001
 lapd user --connect 127.0.0.1:4000 --t202 0 => error: invalid value '0' for '--t202 <MS>': not a number from 1 to 3600000 in decimal digits~
 lapd user --connect 127.0.0.1:4000 --t203 3600001 => error: invalid value '3600001' for '--t203 <MS>': not a number from 1 to 3600000 in decimal digits~
 lapd user --connect 127.0.0.1:4000 --seed 18446744073709551616 => error: invalid value '18446744073709551616' for '--seed <NUMBER>': not a number from 0 to 18446744073709551615 in decimal digits~
-lapd answer --tei 127 => error: invalid value '127' for '--tei <TEI>': not a number from 0 to 126 in decimal digits~";
+lapd answer --tei 127 => error: invalid value '127' for '--tei <TEI>': not a number from 0 to 126 in decimal digits~
+lapd conform --connect a:1 --of net => test net connect a:1 - - -
+lapd conform --of=user --listen=:1 --upper b:2 --stack s => test user listen :1 b:2 s -
+lapd conform --cases 7-* --cases=8-V-12 --connect a:1 --of net --suite t => test net connect a:1 - - t of 7-* 8-V-12
+lapd conform --listen a:1 --of user --anew --json --report d => test user listen a:1 - - - anew json into d -
+lapd conform --junit=j --connect a:1 --of net => test net connect a:1 - - - into - j
+lapd conform --print => print -
+lapd conform --print --suite t --cases *-T-* => print t of *-T-*
+lapd conform --help => a text
+lapd conform --connect a:1 => error: --of net or --of user is required: the side that is tested~
+lapd conform --of net => error: --connect ADDRESS or --listen ADDRESS of the stack is required~
+lapd conform --of net --connect a:1 --listen a:2 => error: --connect cannot be used with --listen~
+lapd conform --of both => refused
+lapd conform --strict --print => refused
+lapd conform --print more => refused
+lapd confrom => refused error: unrecognized subcommand 'confrom'~~  tip: a similar subcommand exists: 'conform'~~Usage: lapd [COMMAND]~~For more information, try '--help'.~";
 
 /// Results of scripts, and the exit status of each.
 const ENDS: &[(ScriptFault, &str)] = &[
@@ -327,7 +343,8 @@ fn shown_words(alloc: Global, words: &[&str]) -> String {
     let mut text = String::new(alloc);
     let chosen = parse_words(alloc, words);
     match &chosen {
-        Ok(chosen) => show(&mut text, chosen),
+        Ok(Chosen::Script(chosen)) => show(&mut text, chosen),
+        Ok(Chosen::Conform(conformance)) => show_conformance(&mut text, conformance),
         Err(unchosen) => show_none(&mut text, unchosen),
     }
     text
@@ -348,6 +365,37 @@ fn show_none(text: &mut String, unchosen: &NoInvocation<'_>) {
         NoInvocation::Refused(said) => write!(text, "refused {said}"),
         _ => write!(text, "{unchosen}"),
     };
+}
+
+fn show_conformance(text: &mut String, conformance: &Conformance<'_>) {
+    match conformance {
+        Conformance::Print(cases) => {
+            let _ = text.push_str("print");
+            show_cases(text, cases);
+        }
+        Conformance::Test(test) => {
+            let side = if test.side == Side::User {
+                "user"
+            } else {
+                "net"
+            };
+            let how = if test.listens { "listen" } else { "connect" };
+            let (upper, stack) = (test.upper.unwrap_or("-"), test.stack.unwrap_or("-"));
+            let _ = write!(text, "test {side} {how} {} {upper} {stack}", test.address);
+            show_cases(text, &test.cases);
+            let _ = text.push_str(if test.anew { " anew" } else { "" });
+            let _ = text.push_str(if test.json { " json" } else { "" });
+            if test.report.is_some() || test.junit.is_some() {
+                let (report, junit) = (test.report.unwrap_or("-"), test.junit.unwrap_or("-"));
+                let _ = write!(text, " into {report} {junit}");
+            }
+        }
+    }
+}
+
+fn show_cases(text: &mut String, cases: &CaseChoice<'_>) {
+    let _ = write!(text, " {}", cases.suite.unwrap_or("-"));
+    show_files(text, cases.patterns.as_slice());
 }
 
 fn show(text: &mut String, chosen: &Invocation<'_>) {

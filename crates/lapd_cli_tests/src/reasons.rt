@@ -9,7 +9,7 @@ use crate::scenarios::words_of;
 use arrayvec::ArrayVec;
 use lapd_cli_console::{Script, reason, tidied};
 use lapd_cli_live_text::read_live_line;
-use lapd_cli_options::{Invocation, parse_words};
+use lapd_cli_options::{Chosen, Invocation, parse_words};
 use lapd_cli_script::{LineFault, ScriptFault};
 use lapd_cli_side_commands::{FromRead, FromWrite, Port};
 use lapd_sides::{Side, Tei};
@@ -265,8 +265,8 @@ fn lines_hold(alloc: Global, command: Command<'_, '_>) -> Result<(), Fail> {
 /// Fails the test at the first line of the command with these words that is not as the rows say.
 fn command_holds(alloc: Global, script: Script, words: &[&str]) -> Result<(), Fail> {
     match parse_words(alloc, words) {
-        Ok(chosen) => lines_hold(alloc, (script, &chosen)),
-        Err(_) => Err(Fail::new("no such words")),
+        Ok(Chosen::Script(chosen)) => lines_hold(alloc, (script, &chosen)),
+        _ => Err(Fail::new("no such words")),
     }
 }
 

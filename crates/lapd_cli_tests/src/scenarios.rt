@@ -17,7 +17,7 @@ use crate::examples::wrong_example;
 use crate::run::run;
 use crate::scenario::{Console, Line, Scenario, mark_of};
 use lapd_cli_console::{RecentLines, Refusals, Watched};
-use lapd_cli_options::{Invocation, Job, parse_words};
+use lapd_cli_options::{Chosen, Invocation, Job, parse_words};
 use lapd_cli_script::{PortFault, ScriptFault};
 use lapd_cli_side_commands::{FromRead, FromWrite, Port, Sink, Source};
 use std::alloc::{AllocError, Global};
@@ -74,7 +74,7 @@ fn printed_by(alloc: Global, row: &str) -> Vec<u8> {
     let (words, scenario) = row.split_once('\n').unwrap_or((row, ""));
     let words = words_of(alloc, words);
     let mut printed = Vec::new(alloc);
-    if let (Ok(chosen), Ok(script)) = (
+    if let (Ok(Chosen::Script(chosen)), Ok(script)) = (
         parse_words(alloc, words.as_slice()),
         script_of(alloc, scenario),
     ) {
@@ -181,8 +181,8 @@ fn filled(alloc: Global, scenario: &str) -> Result<String, AllocError> {
 
 fn invocation_passes(alloc: Global, words: &[&str], scenario: &str, trial: Trial<'_>) -> bool {
     match parse_words(alloc, words) {
-        Ok(chosen) => is_tried(alloc, &chosen, scenario, trial),
-        Err(_) => false,
+        Ok(Chosen::Script(chosen)) => is_tried(alloc, &chosen, scenario, trial),
+        _ => false,
     }
 }
 

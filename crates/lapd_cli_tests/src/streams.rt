@@ -4,7 +4,7 @@ use crate::run::run;
 use crate::scenario::{Console, Scenario};
 use crate::scenarios::words_of;
 use lapd_cli_console::{PrintedAnswers, RecentLines, Refusals, Script, Session};
-use lapd_cli_options::{Invocation, parse_words};
+use lapd_cli_options::{Chosen, Invocation, parse_words};
 use lapd_cli_script::ScriptFault;
 use lapd_cli_side_commands::{FromRead, FromWrite, Port};
 use lapd_test_text::Parts;
@@ -245,8 +245,8 @@ fn wrong(alloc: Global, chosen: &Invocation<'_>) -> Result<&'static str, AllocEr
 fn streams_are_watched(rt: HostRuntime) -> Result<(), Fail> {
     let words = words_of(rt.alloc(), "lapd answer");
     let wrong = match parse_words(rt.alloc(), words.as_slice()) {
-        Ok(chosen) => wrong(rt.alloc(), &chosen)?,
-        Err(_) => "the words",
+        Ok(Chosen::Script(chosen)) => wrong(rt.alloc(), &chosen)?,
+        _ => "the words",
     };
     if wrong.is_empty() {
         Ok(())

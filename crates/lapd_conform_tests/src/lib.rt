@@ -1,4 +1,5 @@
-//! Tests of the conformance suite, of its grammar, of the judge and of the player.
+//! Tests of the conformance suite, of its grammar, of the judge, of the player, and of the texts of
+//! the command.
 #![tactic(auto)]
 
 #[cfg(test)]
@@ -11,3 +12,5 @@ mod plays;
 mod station;
 #[cfg(test)]
 mod suite;
+#[cfg(test)]
+mod texts;

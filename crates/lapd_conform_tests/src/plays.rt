@@ -101,13 +101,13 @@ impl Tally {
         &mut self,
         station: &mut OwnStation,
         stack: &Stack,
+        session: &mut Session,
         lines: &'s [NumberedLine<'s>],
         name: &str,
     ) -> Result<(), Lost> {
-        let mut session = Session::new();
         let mut place: usize = 0;
         for _turn in 0..MOST_CASES {
-            let count = self.play_at(station, stack, &mut session, lines, place, name)?;
+            let count = self.play_at(station, stack, session, lines, place, name)?;
             if count == 0 {
                 return Ok(());
             }
@@ -145,8 +145,9 @@ impl Tally {
             return Err(Lost::Memory);
         };
         let stack = stack(own);
+        let mut session = Session::new();
         for part in PARTS {
-            self.play_text(&mut station, &stack, part, name)?;
+            self.play_text(&mut station, &stack, &mut session, part, name)?;
         }
         Ok(())
     }
@@ -155,11 +156,12 @@ impl Tally {
         &mut self,
         station: &mut OwnStation,
         stack: &Stack,
+        session: &mut Session,
         text: &str,
         name: &str,
     ) -> Result<(), Lost> {
         match read_suite(self.alloc, text.as_bytes()) {
-            Ok(lines) => self.play_part(station, stack, lines.as_slice(), name),
+            Ok(lines) => self.play_part(station, stack, session, lines.as_slice(), name),
             Err(_) => Err(Lost::Memory),
         }
     }
@@ -177,13 +179,14 @@ fn right(side: Side, is_primary: bool, delay: u32) -> Own {
         side,
         is_primary,
         planted: Planted::Nothing,
+        is_kept: false,
         delay,
     }
 }
 
 /// Plays the whole suite against both sides, with fixed and with automatic TEIs. No case fails, and
 /// at most this many are inconclusive.
-fn no_case_fails(alloc: Global, delay: u32, most: u32) -> Result<(), Fail> {
+fn no_case_fails(alloc: Global, is_kept: bool, delay: u32, most: u32) -> Result<(), Fail> {
     for (side, is_primary) in [
         (Side::Network, true),
         (Side::User, true),
@@ -191,7 +194,11 @@ fn no_case_fails(alloc: Global, delay: u32, most: u32) -> Result<(), Fail> {
         (Side::User, false),
     ] {
         let mut tally = Tally::new(alloc);
-        let played = tally.play_suite(right(side, is_primary, delay), "");
+        let own = Own {
+            is_kept,
+            ..right(side, is_primary, delay)
+        };
+        let played = tally.play_suite(own, "");
         if played.is_err()
             || !tally.failed.is("")
             || tally.inconclusive > most
@@ -210,12 +217,18 @@ fn no_case_fails(alloc: Global, delay: u32, most: u32) -> Result<(), Fail> {
 
 #[test]
 fn own_sides_pass(rt: HostRuntime) -> Result<(), Fail> {
-    no_case_fails(rt.alloc(), 0, 0)
+    no_case_fails(rt.alloc(), false, 0, 0)
+}
+
+/// Of a network side that is not started anew, TEI management is not judged: 17 cases.
+#[test]
+fn own_sides_pass_that_are_kept(rt: HostRuntime) -> Result<(), Fail> {
+    no_case_fails(rt.alloc(), true, 0, 17)
 }
 
 #[test]
 fn no_case_fails_over_slow_lines(rt: HostRuntime) -> Result<(), Fail> {
-    no_case_fails(rt.alloc(), 350, 60)
+    no_case_fails(rt.alloc(), false, 350, 60)
 }
 
 /// Wrong stacks: what is wrong, the planted fault, and a case that finds it. Octets are the third

@@ -53,6 +53,8 @@ pub(crate) struct Own {
     /// access.
     pub is_primary: bool,
     pub planted: Planted,
+    /// Whether the stack is not started anew for each case.
+    pub is_kept: bool,
     /// The greatest delay of a frame, in milliseconds.
     pub delay: u32,
 }
@@ -367,6 +369,9 @@ impl Station for OwnStation {
     }
 
     fn restart(&mut self) -> Result<bool, Lost> {
+        if self.own.is_kept {
+            return Ok(false);
+        }
         match self.renew() {
             Ok(()) => Ok(true),
             Err(_) => Err(Lost::Memory),

@@ -1,0 +1,4 @@
+mod Joined
+mod Rows
+mod StackLines
+mod TextLines
