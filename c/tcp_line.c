@@ -45,23 +45,46 @@ static in_port_t port_of(const char *text)
 	return htons((uint16_t)port);
 }
 
-int connected(bool listens, const char *port)
+static struct sockaddr_in address_of(const char *port)
 {
 	struct sockaddr_in address = { 0 };
-	const struct sockaddr *where = (const struct sockaddr *)&address;
-	int line = socket(AF_INET, SOCK_STREAM, 0), on = 1;
 
 	address.sin_family = AF_INET;
 	address.sin_port = port_of(port);
 	address.sin_addr.s_addr = htonl(INADDR_LOOPBACK);
-	if (!listens) {
-		if (connect(line, where, sizeof address) != 0)
-			fail("connect");
-		return line;
-	}
-	setsockopt(line, SOL_SOCKET, SO_REUSEADDR, &on, sizeof on);
-	if (bind(line, where, sizeof address) != 0 || listen(line, 1) != 0 || (line = accept(line, NULL, NULL)) < 0)
+	return address;
+}
+
+int listening(const char *port)
+{
+	struct sockaddr_in address = address_of(port);
+	int listener = socket(AF_INET, SOCK_STREAM, 0), on = 1;
+
+	setsockopt(listener, SOL_SOCKET, SO_REUSEADDR, &on, sizeof on);
+	if (bind(listener, (const struct sockaddr *)&address, sizeof address) != 0 || listen(listener, 1) != 0)
 		fail("listen");
+	return listener;
+}
+
+int accepted(int listener)
+{
+	int line = accept(listener, NULL, NULL);
+
+	if (line < 0)
+		fail("accept");
+	return line;
+}
+
+int connected(bool listens, const char *port)
+{
+	struct sockaddr_in address = address_of(port);
+	int line;
+
+	if (listens)
+		return accepted(listening(port));
+	line = socket(AF_INET, SOCK_STREAM, 0);
+	if (connect(line, (const struct sockaddr *)&address, sizeof address) != 0)
+		fail("connect");
 	return line;
 }
 

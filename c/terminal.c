@@ -44,7 +44,7 @@ static void send_and_report(struct terminal *t)
  * frame had arrived by then. */
 static uint64_t receive(struct terminal *t)
 {
-	uint8_t frame[LAPD_MOST_FRAME];
+	uint8_t frame[LINE_FRAME];
 	uint64_t now = clock_now();
 	int length, left;
 

@@ -152,7 +152,7 @@ static void take_frame(const uint8_t *frame, size_t length, uint64_t now)
  * frame had arrived by then. */
 static uint64_t receive(void)
 {
-	uint8_t frame[LAPD_MOST_FRAME];
+	uint8_t frame[LINE_FRAME];
 	uint64_t now = clock_now();
 	int length;
 

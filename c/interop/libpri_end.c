@@ -18,7 +18,7 @@ static int on_read(struct pri *end, void *octets, int size)
 	int length;
 
 	(void)end;
-	if (size < LAPD_MOST_FRAME + CHECK_SEQUENCE)
+	if (size < LINE_FRAME + CHECK_SEQUENCE)
 		fail("libpri's buffer");
 	length = next_frame(&line, octets);
 	libpri_line_closed = length < 0;

@@ -31,7 +31,7 @@ static void on_deliver(enum their_primitive primitive, const uint8_t *octets, si
 int main(int count, char **words)
 {
 	static const struct their_calls calls = { on_write, on_deliver };
-	uint8_t frame[LAPD_MOST_FRAME];
+	uint8_t frame[LINE_FRAME];
 	int length;
 
 	if (count < 5) {

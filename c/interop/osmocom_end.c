@@ -12,7 +12,7 @@
 #include <osmocom/core/timer.h>
 #include <osmocom/core/timer_compat.h>
 
-#define ROOM 512
+#define ROOM 1024
 #define HEADROOM 64 /* lapd_core writes a header before the data that it is passed */
 
 const char their_name[] = "Osmocom";

@@ -31,9 +31,13 @@ for what in message window_message next_message poll tick deadline deadline_of_2
 	printf "$form" $what "$(instructions "$1" $what)" "$theirs"
 done
 for what in release lost_frame expired_timer; do
-	printf "$form" $what "$(instructions "$1" $what)" -
+	theirs=-
+	[ $# -lt 2 ] || theirs=$(instructions "$2" $what)
+	printf "$form" $what "$(instructions "$1" $what)" "$theirs"
 done
-printf "$form" assigned_tei $(($(instructions "$1" assigned_tei) - $(instructions "$1" fresh_network))) -
+theirs=-
+[ $# -lt 2 ] || theirs=$(($(instructions "$2" assigned_tei) - $(instructions "$2" fresh_network)))
+printf "$form" assigned_tei $(($(instructions "$1" assigned_tei) - $(instructions "$1" fresh_network))) "$theirs"
 printf "\n$form" 'pairs, messages of each in turn' liblapd libpri
 for pairs in 1 100 1000; do
 	for messages in 1 7; do
