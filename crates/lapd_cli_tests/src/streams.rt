@@ -241,13 +241,17 @@ fn wrong(alloc: Global, chosen: &Invocation<'_>) -> Result<&'static str, AllocEr
     })
 }
 
+fn wrong_of(alloc: Global, words: &[&str]) -> Result<&'static str, AllocError> {
+    match parse_words(alloc, words) {
+        Ok(Chosen::Script(chosen)) => wrong(alloc, &chosen),
+        _ => Ok("the words"),
+    }
+}
+
 #[test]
 fn streams_are_watched(rt: HostRuntime) -> Result<(), Fail> {
     let words = words_of(rt.alloc(), "lapd answer");
-    let wrong = match parse_words(rt.alloc(), words.as_slice()) {
-        Ok(Chosen::Script(chosen)) => wrong(rt.alloc(), &chosen)?,
-        _ => "the words",
-    };
+    let wrong = wrong_of(rt.alloc(), words.as_slice())?;
     if wrong.is_empty() {
         Ok(())
     } else {
