@@ -31,6 +31,7 @@ object_line r = codes "{\"case\":" ++ quoted r.name.now
     ++ member_text (codes "needs") r.needs.now
     ++ member_text (codes "reason") r.reason.now
     ++ member_text (codes "seen") r.seen.now
+    ++ member_text (codes "suite") r.suite.now
     ++ member_text (codes "title") r.title.now
     ++ member_text (codes "verdict") (grade_word r.grade)
     ++ member_text (codes "wanted") r.wanted.now

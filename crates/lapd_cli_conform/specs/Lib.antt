@@ -1,6 +1,8 @@
+pub mod Found
 pub mod Json
 pub mod Junit
 pub mod Patterns
+pub mod Plans
 pub mod Reading
 pub mod Results
 pub mod Settings

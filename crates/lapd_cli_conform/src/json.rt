@@ -25,6 +25,7 @@ pub fn push_object(text: &mut Vec<u8>, report: &CaseReport<'_>) -> Result<(), Al
     push_member(text, b"needs", report.needs)?;
     push_member(text, b"reason", report.reason)?;
     push_member(text, b"seen", report.seen)?;
+    push_member(text, b"suite", report.suite)?;
     push_member(text, b"title", report.title)?;
     push_member(text, b"verdict", report.grade.word())?;
     push_member(text, b"wanted", report.wanted)?;

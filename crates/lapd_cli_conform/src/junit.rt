@@ -45,8 +45,10 @@ fn push_failure(text: &mut Vec<u8>, report: &CaseReport<'_>) -> Result<(), Alloc
     push_escaped(text, report.reason)?;
     text.extend_from_slice(b"\">clause ")?;
     push_escaped(text, report.clause)?;
-    text.extend_from_slice(b"; wanted ")?;
-    push_escaped(text, report.wanted)?;
+    if !report.wanted.is_empty() {
+        text.extend_from_slice(b"; wanted ")?;
+        push_escaped(text, report.wanted)?;
+    }
     text.extend_from_slice(b"; seen ")?;
     push_escaped(text, report.seen)?;
     text.extend_from_slice(b"</failure></testcase>\n")?;

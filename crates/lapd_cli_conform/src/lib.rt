@@ -7,13 +7,16 @@
 //! [`push_wanted`] find lines of a suite by their numbers.
 //!
 //! specs/, in order: `Reading` says how a word is read; `Settings` and `StackFiles` define stack
-//! files, `Patterns` patterns, `Tallies` the counts and the exit status, and `Results`, `Json`
-//! and `Junit` the texts of a result.
+//! files, `Patterns` patterns, `Tallies` the counts and the exit status, and `Results`, `Found`,
+//! `Json` and `Junit` the texts of a result.
 //!
-//! [`Run`] plays the cases of a suite's text against a station, and reports their results.
+//! [`Run`] plays the cases of a suite's text against a station, and reports their results;
+//! [`DrawnRun`] draws stimuli in place of a suite. `Plans` says how many in which round.
 #![tactic(auto)]
 
+mod drawn;
 mod fault;
+mod found;
 mod json;
 mod junit;
 mod named;
@@ -28,7 +31,9 @@ mod stack_file;
 mod suite_text;
 mod tally;
 
+pub use drawn::{DrawCounts, DrawPlan, DrawnRun};
 pub use fault::{Fault, StackFault, Wanted};
+pub use found::push_found;
 pub use json::push_object;
 pub use junit::{junit_file, push_test_case};
 pub use lapd_conform::{Case, Happening, Lost, Played, Stack, Station, What};

@@ -51,6 +51,8 @@ pub struct CaseReport<'t> {
     pub wanted: &'t [u8],
     /// The frame that was received.
     pub seen: &'t [u8],
+    /// The text of a drawn case, with its line feeds.
+    pub suite: &'t [u8],
 }
 
 /// Appends the line of a result, with its line feed: the verdict, the name and the title, and what

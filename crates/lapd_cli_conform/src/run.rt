@@ -38,6 +38,9 @@ pub trait Reporter {
     /// A case begins: its number among the cases that are played, and their number.
     fn begin(&mut self, number: u64, count: u64, name: &str, title: &[u8]);
 
+    /// A round of drawn stimuli is shrunk: the number of the try, and how many stimuli it has.
+    fn shrink(&mut self, number: u64, stimuli: usize);
+
     /// A case has ended, which has this text in its suite. Without `played` it does not apply.
     ///
     /// # Errors
@@ -239,6 +242,7 @@ impl<'a> Run<'a> {
             reason: reason_of(played).as_bytes(),
             wanted: wanted.as_slice(),
             seen: seen.as_bytes(),
+            suite: &[],
         };
         results.end(&report, source_of(text, case), Some(played))?;
         Ok(grade)
@@ -261,6 +265,7 @@ fn report_lack<R: Reporter>(
         reason: &[],
         wanted: &[],
         seen: &[],
+        suite: &[],
     };
     results.end(&report, source_of(text, case), None)?;
     Ok(Grade::NotApplicable)
@@ -276,7 +281,7 @@ pub fn source_of<'t>(text: &'t [u8], case: &Case<'_>) -> &'t [u8] {
     }
 }
 
-fn grade_of(verdict: Verdict) -> Grade {
+pub(crate) fn grade_of(verdict: Verdict) -> Grade {
     match verdict {
         Verdict::Pass => Grade::Pass,
         Verdict::Fail => Grade::Fail,

@@ -12,7 +12,7 @@ mod playing;
 pub use lapd_conform_judge::{Judgement, Verdict, verdict_on};
 pub use lapd_conform_player::{
     Ask, Case, Happening, Lacks, Lost, Need, NumberedLine, Preamble, Reason, Request, Requests,
-    Stack, Station, What, first_case,
+    Stack, Station, What, first_case, request_word,
 };
 pub use outcome::{Doubt, Outcome, Played};
 pub use playing::{Session, play};

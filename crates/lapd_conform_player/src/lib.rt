@@ -22,5 +22,6 @@ pub use lapd_conform_dialogue::{Ask, Happening, What};
 pub use lapd_conform_suite::{Group, Need, NumberedLine, Preamble, Request};
 pub use performance::{Performance, lack, perform};
 pub use reason::{Lacks, Reason};
+pub use spelled::{request_word, sent_octets};
 pub use stack::{Requests, Stack};
 pub use station::{Lost, Station};

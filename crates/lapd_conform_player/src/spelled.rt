@@ -2,8 +2,9 @@
 
 ghost use Rattle.std.specs.Prelude.{◌≤◌};
 
+use crate::stack::Stack;
 use crate::values::Values;
-use lapd_conform_suite::{Fields, Information, Kind, Line, Pattern, TeiKind};
+use lapd_conform_suite::{Fields, Information, Kind, Line, Pattern, Request, Step, TeiKind};
 use lapd_frame::{N201, Role, Side};
 use std::alloc::{AllocError, Global};
 
@@ -12,6 +13,39 @@ pub(crate) const MANAGEMENT: u8 = 63;
 
 /// The group TEI.
 pub(crate) const GROUP: u8 = 127;
+
+/// The octets that a line of a case sends to a stack whose link has this TEI, without what the case
+/// kept before. Empty if the line sends nothing.
+///
+/// # Errors
+///
+/// An allocation failed.
+pub fn sent_octets(
+    alloc: Global,
+    stack: &Stack,
+    tei: u8,
+    line: &Line<'_>,
+) -> Result<Vec<u8>, AllocError> {
+    match line.step {
+        Step::Send(pattern) => spelled(alloc, &Values::new(*stack, tei), pattern, line),
+        _ => Ok(Vec::new(alloc)),
+    }
+}
+
+/// The word of a request, in a suite and for an upper tester.
+pub fn request_word(request: Request) -> &'static str {
+    match request {
+        Request::Establish => "establish",
+        Request::Release => "release",
+        Request::Give => "give",
+        Request::Unit => "unit",
+        Request::Busy => "busy",
+        Request::Ready => "ready",
+        Request::Ask => "ask",
+        Request::Check => "check",
+        Request::Remove => "remove",
+    }
+}
 
 /// The octets of a frame that the tester sends.
 pub(crate) fn spelled(

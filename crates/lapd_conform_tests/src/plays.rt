@@ -16,7 +16,7 @@ use std::test::Fail;
 const MOST_CASES: usize = 1_000;
 
 /// What is known of our own side.
-fn stack(own: Own) -> Stack {
+pub(crate) fn stack(own: Own) -> Stack {
     let mut stack = Stack::new(own.side);
     stack.requests = requests(own.side);
     stack.confirms = true;
@@ -174,7 +174,7 @@ fn is_named(case: &Case<'_>, name: &str) -> bool {
 }
 
 /// Our own sides, which are right.
-fn right(side: Side, is_primary: bool, delay: u32) -> Own {
+pub(crate) fn right(side: Side, is_primary: bool, delay: u32) -> Own {
     Own {
         side,
         is_primary,
@@ -233,7 +233,7 @@ fn no_case_fails_over_slow_lines(rt: HostRuntime) -> Result<(), Fail> {
 
 /// Wrong stacks: what is wrong, the planted fault, and a case that finds it. Octets are the third
 /// of a frame: its control field, or the first octet of that.
-const WRONG: &str = "\
+pub(crate) const WRONG: &str = "\
 DM with F=0 | wrong 1f 0f | 4-V-03
 UA with F=0 | wrong 73 63 | 4-V-01
 no UA to SABME | mute 73 | 4-V-01
@@ -284,7 +284,7 @@ fn is_found(alloc: Global, row: &str) -> bool {
 }
 
 /// The fault that these words name.
-fn planted(words: &str) -> Planted {
+pub(crate) fn planted(words: &str) -> Planted {
     let (word, rest) = split(words, " ");
     let (first, second) = split(rest, " ");
     match word {

@@ -1,7 +1,8 @@
 //! Tests of the texts of `conform`: stack files, patterns, and results.
 
 use lapd_cli_conform::{
-    CaseReport, Grade, Stack, fits, push_line, push_object, push_test_case, push_wanted, read_stack,
+    CaseReport, DrawPlan, Grade, Stack, fits, push_found, push_line, push_object, push_test_case,
+    push_wanted, read_stack,
 };
 use lapd_sides::Side;
 use lapd_test_text::{Subject, Text, split, wrong_row};
@@ -53,8 +54,16 @@ line inconclusive | n;t;c;;r;w;s | inconclusive n t; r; wanted w; seen s~
 line n/a | n;t;c;give | n/a n t; needs give~
 json fail | n;a \"b\" \\;c;;r;w;s | {\"case\":\"n\",\"clause\":\"c\",\"reason\":\"r\",\"seen\":\"s\",\"title\":\"a \\\"b\\\" \\\\\",\"verdict\":\"fail\",\"wanted\":\"w\"}~
 json n/a | n;t;c;give | {\"case\":\"n\",\"clause\":\"c\",\"needs\":\"give\",\"title\":\"t\",\"verdict\":\"n/a\"}~
+found fail | n;t;c;;r;;s;case;x | # fail n t; r; clause c; seen s~# The least case that fails. --suite FILE plays it again, if FILE has these lines.~case;x
+json fail | n;t;c;;r;;s;x | {\"case\":\"n\",\"clause\":\"c\",\"reason\":\"r\",\"seen\":\"s\",\"suite\":\"x\",\"title\":\"t\",\"verdict\":\"fail\"}~
+plan 1 | 1 | 1 1
+plan 30 | 1 | 1 30
+plan 31 | 1 | 2 30
+plan 31 | 2 | 2 1
+plan 31 | 3 | 2 0
 junit pass | n;a < b & c;c | <testcase classname=\"lapd conform\" name=\"n a &lt; b &amp; c\" time=\"1.005\"/>~
 junit fail | n;t;c;;r;w;s | <testcase classname=\"lapd conform\" name=\"n t\" time=\"1.005\"><failure message=\"r\">clause c; wanted w; seen s</failure></testcase>~
+junit fail | n;t;c;;r;;s | <testcase classname=\"lapd conform\" name=\"n t\" time=\"1.005\"><failure message=\"r\">clause c; seen s</failure></testcase>~
 junit inconclusive | n;t;c;;r | <testcase classname=\"lapd conform\" name=\"n t\" time=\"1.005\"><skipped message=\"inconclusive: r\"/></testcase>~
 junit n/a | n;t;c;give | <testcase classname=\"lapd conform\" name=\"n t\" time=\"1.005\"><skipped message=\"needs give\"/></testcase>~
 ";
@@ -106,6 +115,16 @@ fn show_stack(stack: &Stack, made: &mut Text) {
     made.shown(" ", &stack.delay);
 }
 
+/// The rounds of so many stimuli, and the stimuli of one of them.
+fn put_plan(count: &str, number: &str, made: &mut Text) {
+    let plan = DrawPlan {
+        count: count.parse::<u64>().unwrap_or(0),
+        seed: 0,
+    };
+    made.shown("", &plan.rounds());
+    made.shown(" ", &plan.stimuli_of(number.parse::<u64>().unwrap_or(0)));
+}
+
 fn show_requests(stack: &Stack, made: &mut Text) {
     made.mark(" establish", stack.requests.establish);
     made.mark(" release", stack.requests.release);
@@ -133,7 +152,8 @@ fn report_of<'t>(grade: Grade, text: &'t str) -> CaseReport<'t> {
     let (clause, rest) = split(rest, ";");
     let (needs, rest) = split(rest, ";");
     let (reason, rest) = split(rest, ";");
-    let (wanted, seen) = split(rest, ";");
+    let (wanted, rest) = split(rest, ";");
+    let (seen, suite) = split(rest, ";");
     CaseReport {
         grade,
         name: name.as_bytes(),
@@ -143,6 +163,7 @@ fn report_of<'t>(grade: Grade, text: &'t str) -> CaseReport<'t> {
         reason: reason.as_bytes(),
         wanted: wanted.as_bytes(),
         seen: seen.as_bytes(),
+        suite: suite.as_bytes(),
     }
 }
 
@@ -160,6 +181,7 @@ impl Maker {
         let put = match kind {
             "line" => push_line(&mut octets, &report),
             "json" => push_object(&mut octets, &report),
+            "found" => push_found(&mut octets, &report),
             _ => push_test_case(self.alloc, &mut octets, &report, 1_005),
         };
         if put.is_ok() {
@@ -198,6 +220,7 @@ impl Subject for Maker {
                 "no"
             }),
             "wanted" => self.put_wanted(word, &lines, &mut own),
+            "plan" => put_plan(word, text, &mut own),
             _ => self.put_result(kind, word, text, &mut own),
         }
         let so = own.is(wanted);
