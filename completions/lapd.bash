@@ -36,8 +36,8 @@ _lapd() {
             offered="--strict --help"
             case ${COMP_WORDS[1]} in
                 conform)
-                    offered="--connect --listen --of --stack --upper --cases --suite --anew --report --junit --json"
-                    offered+=" --print --help"
+                    offered="--connect --listen --of --stack --upper --cases --suite --draw --seed --anew --report --junit"
+                    offered+=" --json --print --help"
                     ;;
                 answer) offered+=" --side --sapi --tei --k --n200 --room --recovery" ;;
                 bus) offered+=" --terminals --links --ladder" ;;

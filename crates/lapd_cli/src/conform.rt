@@ -2,8 +2,8 @@
 
 use crate::ending::print_memory;
 use crate::job::with_host;
-use lapd_cli_options::{Conformance, Side, StackTest};
-use lapd_cli_tester::{Address, ResultStyle, TesterSetup, print_suite, run_tester};
+use lapd_cli_options::{Conformance, Side, StackTest, Stimuli};
+use lapd_cli_tester::{Address, Cases, Play, ResultStyle, TesterSetup, print_suite, run_tester};
 use std::process::ExitCode;
 
 /// Tests a stack, or prints cases of a suite, and reports how that ended.
@@ -48,10 +48,20 @@ fn run_test_at<'a>(rt: &HostRuntime, test: &'a StackTest<'a>, address: &'a str) 
         address,
         upper: test.upper,
         stack: test.stack,
-        suite: test.cases.suite,
-        patterns: test.cases.patterns.as_slice(),
+        play: play_of(test),
         anew: test.anew,
         results,
     };
     ExitCode::from(run_tester(rt, &setup))
+}
+
+// What is played.
+fn play_of<'a>(test: &'a StackTest<'a>) -> Play<'a> {
+    match &test.stimuli {
+        Stimuli::Cases(cases) => Play::Cases(Cases {
+            suite: cases.suite,
+            patterns: cases.patterns.as_slice(),
+        }),
+        Stimuli::Drawn(count, seed) => Play::Drawn(*count, *seed),
+    }
 }

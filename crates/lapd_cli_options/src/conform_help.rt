@@ -26,6 +26,14 @@ Plays only cases whose names fit, such as '7-*' or
 
 pub const SUITE: &str = "Plays the suite in this file, not the built-in one";
 
+pub const DRAW: &str = "\
+Draws so many stimuli in place of the suite, 1 to
+1000000, and ends at the first wrong answer";
+
+pub const SEED: &str = "\
+The seed of --draw, 0 to 18446744073709551615; by
+default any, which is printed";
+
 pub const ANEW: &str = "\
 Connects again for each case; the stack begins
 anew with each connection";
@@ -95,10 +103,21 @@ Without --upper, cases that need a request do not apply.
 TEI management of a network side is judged only if the stack begins anew with each case: with
 --anew the tester closes the connection after a case, and makes the next one within 10 seconds.
 
+With --draw STIMULI, frames, requests and pauses are drawn near the numbers of the link, in rounds of
+30, and judged as cases are; without --upper no requests are drawn. A round that passes is not
+printed. The run ends at the first round that fails, also when it is played again. Stimuli are left
+out as long as it fails, and the rest is printed as a case. The output is a suite for --suite:
+  # fail NAME drawn by seed SEED in round NUMBER; REASON; clause CLAUSE; seen FRAME
+  case NAME drawn by seed SEED in round NUMBER
+  ..
+  # 120 stimuli of seed SEED in 4 rounds: 3 pass, 1 fail, 0 not judged
+The same seed, number of stimuli, stack file and --upper draw the same stimuli.
+
 With --report DIR, a case that fails is written to DIR/NAME.pcap, a capture, and to DIR/NAME.txt,
 its frames as lines that `lapd decode` reads. With --json a result has the members case, clause,
 needs, reason, seen, title, verdict and wanted, unless they are empty, and the counts are not
-printed. In the file of --junit an inconclusive case is skipped, and so is one that does not apply.
+printed. With --draw the result has also the member suite, and the counts are an object with the
+members failed, rounds, seed, stimuli and unjudged. In the file of --junit an inconclusive case is skipped, and so is one that does not apply.
 
 Exit status:
   0  no case failed

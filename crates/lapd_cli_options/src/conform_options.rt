@@ -1,9 +1,9 @@
 //! The options of `conform`.
 
 use crate::no_invocation::NoInvocation;
-use crate::option_tables::{STACK_CONNECT, STACK_LISTEN, UPPER};
+use crate::option_tables::{DRAW, DRAW_SEED, STACK_CONNECT, STACK_LISTEN, UPPER};
 use clap::ArgMatches;
-use lapd_cli_values::Side;
+use lapd_cli_values::{NumberOption, Side, number_written};
 use std::alloc::Global;
 
 /// The name of the command.
@@ -27,11 +27,20 @@ pub struct CaseChoice<'a> {
     pub patterns: Vec<&'a str>,
 }
 
+/// What is played against a stack.
+#[derive(Drop)]
+pub enum Stimuli<'a> {
+    /// Cases of a suite.
+    Cases(CaseChoice<'a>),
+    /// So many drawn stimuli, of this seed; without one, of any.
+    Drawn(u64, Option<u64>),
+}
+
 /// A test of a stack.
 #[derive(Drop)]
 pub struct StackTest<'a> {
-    /// The cases.
-    pub cases: CaseChoice<'a>,
+    /// What is played.
+    pub stimuli: Stimuli<'a>,
     /// The side that is tested.
     pub side: Side,
     /// The address of the stack, unchanged from the command line.
@@ -57,14 +66,21 @@ pub(crate) fn conformance_of<'a>(
     alloc: Global,
     given: &ArgMatches<'a>,
 ) -> Result<Conformance<'a>, NoInvocation<'a>> {
-    let cases = cases_of(alloc, given)?;
-    if given.get_flag("print") {
-        return Ok(Conformance::Print(cases));
+    let stimuli = stimuli_of(alloc, given)?;
+    match stimuli {
+        Stimuli::Cases(cases) if given.get_flag("print") => Ok(Conformance::Print(cases)),
+        stimuli => test_of(given, stimuli),
     }
+}
+
+fn test_of<'a>(
+    given: &ArgMatches<'a>,
+    stimuli: Stimuli<'a>,
+) -> Result<Conformance<'a>, NoInvocation<'a>> {
     let side = tested_side(given)?;
     let (address, listens) = address_of(given)?;
     Ok(Conformance::Test(StackTest {
-        cases,
+        stimuli,
         side,
         address,
         listens,
@@ -75,6 +91,48 @@ pub(crate) fn conformance_of<'a>(
         junit: given.get_str("junit"),
         json: given.get_flag("json"),
     }))
+}
+
+// What is played, or the first option that excludes another one.
+fn stimuli_of<'a>(alloc: Global, given: &ArgMatches<'a>) -> Result<Stimuli<'a>, NoInvocation<'a>> {
+    let seed = number_of(given, DRAW_SEED)?;
+    let Some(count) = number_of(given, DRAW)? else {
+        return match seed {
+            Some(_) => Err(NoInvocation::NotDrawn(DRAW_SEED.name)),
+            None => Ok(Stimuli::Cases(cases_of(alloc, given)?)),
+        };
+    };
+    match option_of_cases(given) {
+        Some(option) => Err(NoInvocation::NotBoth(DRAW.name, option)),
+        None => Ok(Stimuli::Drawn(count, seed)),
+    }
+}
+
+// The first option that chooses or prints cases.
+fn option_of_cases(given: &ArgMatches<'_>) -> Option<&'static str> {
+    if given.get_strs("cases").is_some() {
+        Some("cases")
+    } else if given.get_str("suite").is_some() {
+        Some("suite")
+    } else if given.get_flag("print") {
+        Some("print")
+    } else {
+        None
+    }
+}
+
+// The number of this option, if it is present.
+fn number_of<'a>(
+    given: &ArgMatches<'a>,
+    option: NumberOption,
+) -> Result<Option<u64>, NoInvocation<'a>> {
+    match given.get_str(option.name) {
+        Some(written) => match number_written(option, written) {
+            Ok(number) => Ok(Some(number)),
+            Err(fault) => Err(NoInvocation::OutOfRange(fault)),
+        },
+        None => Ok(None),
+    }
 }
 
 fn cases_of<'a>(alloc: Global, given: &ArgMatches<'a>) -> Result<CaseChoice<'a>, NoInvocation<'a>> {

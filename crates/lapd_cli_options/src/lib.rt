@@ -28,7 +28,7 @@ use clap::{ArgMatches, Command};
 use clock_options::{clock_of, is_clock_open};
 use command_options::{address_of, file_of, job_of, prints_json, span_of};
 use conform_options::conformance_of;
-pub use conform_options::{CaseChoice, Conformance, StackTest};
+pub use conform_options::{CaseChoice, Conformance, StackTest, Stimuli};
 use decode_options::files_of;
 pub use invocation::{
     Chosen, Clock, Color, DecodeOptions, FollowOptions, Invocation, Job, LiveOptions,

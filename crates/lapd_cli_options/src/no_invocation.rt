@@ -12,8 +12,8 @@ pub enum NoInvocation<'a> {
     Shown(String),
     /// The parser refuses them, for the reason in this text. The text is for standard error, and
     /// the exit status is 2, as for `OutOfRange`, `NotReal`, `NotFollowed`, `NotLinks`, `NotNamed`,
-    /// `NotCaptured`, `PcapAndFile`, `OneFile`, `NotBoth`, `NotKinds`, `OneConnection`, `NoSide` and
-    /// `NoAddress`.
+    /// `NotCaptured`, `PcapAndFile`, `OneFile`, `NotBoth`, `NotKinds`, `NotDrawn`, `OneConnection`,
+    /// `NoSide` and `NoAddress`.
     Refused(String),
     /// A number that is not in the range of its option.
     OutOfRange(OutOfRange<'a>),
@@ -36,6 +36,8 @@ pub enum NoInvocation<'a> {
     NotKinds(&'a str),
     /// The options with these names, without the hyphens, exclude each other.
     NotBoth(&'static str, &'static str),
+    /// The option with this name, without the hyphens, requires `--draw`, which is absent.
+    NotDrawn(&'static str),
     /// `--audit` is present, but the side accepts no connection after the first.
     OneConnection,
     /// `--of` is absent, and cases are not printed.
@@ -59,6 +61,7 @@ impl fmt::Display for NoInvocation<'_> {
                 writeln!(f, "error: --{option} requires --follow")
             }
             NoInvocation::NotLinks(option) => writeln!(f, "error: --{option} requires --links"),
+            NoInvocation::NotDrawn(option) => writeln!(f, "error: --{option} requires --draw"),
             NoInvocation::NotNamed(option) => writeln!(f, "error: --{option} requires --names"),
             NoInvocation::NotCaptured(option) => {
                 writeln!(

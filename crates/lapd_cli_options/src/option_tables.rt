@@ -5,8 +5,8 @@ use crate::command_option::{CommandOption, WordOption};
 use crate::{conform_help, help};
 use lapd_cli_values::{
     AUDIT, AddressOption, CONNECT, CONNECTED_TERMINALS, COUNT, FIXED_TEI, FOLLOWED_K, GSMTAP,
-    IDLE_LIMIT, K, KNOWN_TEI, LINK_TEI, LINKS_K, LISTEN, N200, PRINTED_CALL, PRINTED_SAPI,
-    PRINTED_TEI, ROOM, SEED, T200, T201, T202, T203, TERMINALS,
+    IDLE_LIMIT, K, KNOWN_TEI, LINK_TEI, LINKS_K, LISTEN, N200, NumberOption, PRINTED_CALL,
+    PRINTED_SAPI, PRINTED_TEI, ROOM, SEED, T200, T201, T202, T203, TERMINALS,
 };
 
 /// The options of `answer`.
@@ -116,6 +116,8 @@ pub(crate) const CONFORM: &[&[CommandOption]] = &[&[
     CommandOption::Address(UPPER),
     CommandOption::Patterns("cases", conform_help::CASES),
     CommandOption::File("suite", conform_help::SUITE),
+    CommandOption::BareNumber(DRAW),
+    CommandOption::BareNumber(DRAW_SEED),
     CommandOption::Flag("anew", conform_help::ANEW),
     CommandOption::Folder("report", conform_help::REPORT),
     CommandOption::File("junit", conform_help::JUNIT),
@@ -268,6 +270,26 @@ pub(crate) const STACK_LISTEN: AddressOption = AddressOption {
 pub(crate) const UPPER: AddressOption = AddressOption {
     name: "upper",
     help: conform_help::UPPER,
+};
+
+/// The number of drawn stimuli.
+pub(crate) const DRAW: NumberOption = NumberOption {
+    name: "draw",
+    value_name: "STIMULI",
+    help: conform_help::DRAW,
+    default: "",
+    least: 1,
+    most: 1_000_000,
+};
+
+/// The seed of drawn stimuli.
+pub(crate) const DRAW_SEED: NumberOption = NumberOption {
+    name: "seed",
+    value_name: "NUMBER",
+    help: conform_help::SEED,
+    default: "",
+    least: 0,
+    most: 18_446_744_073_709_551_615,
 };
 
 /// The side that is tested.

@@ -5,12 +5,13 @@ use crate::case_files::CaseFiles;
 use crate::refused::{print_memory, print_no_file, print_no_output};
 use crate::upper_tester::passed_since;
 use lapd_cli_conform::{
-    CaseReport, Grade, Halt, Played, Reporter, Tally, junit_file, push_line, push_object,
-    push_test_case,
+    CaseReport, DrawCounts, Grade, Halt, Played, Reporter, Tally, junit_file, push_found,
+    push_line, push_object, push_test_case,
 };
 use lapd_cli_console::Escaped;
 use lapd_cli_outputs::PictureFile;
 use lapd_frame::Side;
+use std::fmt::Display;
 use std::io::{self, ErrorKind, IsTerminal, Write};
 use std::time::Instant;
 
@@ -33,6 +34,8 @@ pub struct ResultStyle<'a> {
 pub(crate) struct Printed<'a> {
     rt: &'a HostRuntime,
     style: ResultStyle<'a>,
+    /// Whether stimuli are drawn: then only a round that fails is printed.
+    is_drawn: bool,
     /// Whether standard error is a terminal, on which the progress is one line.
     is_terminal: bool,
     files: Option<CaseFiles<'a>>,
@@ -52,7 +55,12 @@ impl<'a> Printed<'a> {
     /// # Errors
     ///
     /// The exit status if there is no such folder, which is reported.
-    pub fn new(rt: &'a HostRuntime, side: Side, style: ResultStyle<'a>) -> Result<Printed<'a>, u8> {
+    pub fn new(
+        rt: &'a HostRuntime,
+        side: Side,
+        style: ResultStyle<'a>,
+        is_drawn: bool,
+    ) -> Result<Printed<'a>, u8> {
         let files = match style.report {
             Some(folder) => Some(CaseFiles::new(rt, side, folder)?),
             None => None,
@@ -60,6 +68,7 @@ impl<'a> Printed<'a> {
         Ok(Printed {
             rt,
             style,
+            is_drawn,
             is_terminal: rt.stderr().is_terminal(),
             files,
             cases: Vec::new(rt.alloc()),
@@ -91,10 +100,43 @@ impl<'a> Printed<'a> {
     /// The exit status if that fails, which is reported.
     pub fn finish(&mut self, tally: Tally) -> Result<(), u8> {
         if !self.style.json {
-            if let Err(error) = println!(self.rt; "{tally}") {
-                return Err(print_no_output(self.rt, Some(error.kind())));
-            }
+            self.print_counts(&tally)?;
         }
+        self.write_junit(tally)
+    }
+
+    /// Prints the counts of drawn stimuli, and writes the file of JUnit. After a round that failed
+    /// the counts are a comment, so that the whole output is a suite.
+    ///
+    /// # Errors
+    ///
+    /// The exit status if that fails, which is reported.
+    pub fn finish_drawn(&mut self, counts: &DrawCounts) -> Result<(), u8> {
+        if self.style.json {
+            let Ok(object) = counts.object(self.rt.alloc()) else {
+                return Err(print_memory(self.rt));
+            };
+            self.print_counts(&object.as_str())?;
+        } else if counts.tally.failed == 0 {
+            self.print_counts(counts)?;
+        } else {
+            let Ok(comment) = format!(in self.rt.alloc(); "# {counts}") else {
+                return Err(print_memory(self.rt));
+            };
+            self.print_counts(&comment.as_str())?;
+        }
+        self.write_junit(counts.tally)
+    }
+
+    fn print_counts<D: Display>(&self, counts: &D) -> Result<(), u8> {
+        match println!(self.rt; "{counts}") {
+            Ok(()) => Ok(()),
+            Err(error) => Err(print_no_output(self.rt, Some(error.kind()))),
+        }
+    }
+
+    /// Writes the file of JUnit, if there is one.
+    fn write_junit(&self, tally: Tally) -> Result<(), u8> {
         let Some(name) = self.style.junit else {
             return Ok(());
         };
@@ -107,11 +149,16 @@ impl<'a> Printed<'a> {
         }
     }
 
-    /// Writes the line of a result.
+    /// Writes the line of a result. Of drawn rounds only the one that fails is written, as a suite.
     fn print(&mut self, report: &CaseReport<'_>) -> Result<(), Halt> {
+        if self.is_drawn && report.grade != Grade::Fail {
+            return Ok(());
+        }
         let mut line = Vec::new(self.rt.alloc());
         if self.style.json {
             push_object(&mut line, report)?;
+        } else if self.is_drawn {
+            push_found(&mut line, report)?;
         } else {
             push_line(&mut line, report)?;
         }
@@ -174,6 +221,14 @@ impl Reporter for Printed<'_> {
             eprint!(self.rt; "{ERASED}case {number} of {count}: {name} {title}")
         } else {
             eprintln!(self.rt; "case {number} of {count}: {name} {title}")
+        };
+    }
+
+    fn shrink(&mut self, number: u64, stimuli: usize) {
+        let _ = if self.is_terminal {
+            eprint!(self.rt; "{ERASED}shrinking: try {number} with {stimuli} stimuli")
+        } else {
+            eprintln!(self.rt; "shrinking: try {number} with {stimuli} stimuli")
         };
     }
 

@@ -8,11 +8,31 @@ use crate::refused::{
 };
 use crate::station::TcpStation;
 use crate::upper_tester::UpperTester;
-use lapd_cli_conform::{Halt, Run, Selection, Stack, read_stack, usual_stack, without_upper};
+use lapd_cli_conform::{
+    DrawPlan, DrawnRun, Halt, Run, Selection, Stack, read_stack, usual_stack, without_upper,
+};
 use lapd_cli_io::connection;
 use lapd_cli_outputs::Notes;
 use lapd_frame::Side;
 use std::{fs, io};
+
+/// What is played against the stack.
+#[derive(Clone, Copy)]
+pub enum Play<'a> {
+    /// The cases of a suite.
+    Cases(Cases<'a>),
+    /// So many drawn stimuli, of this seed; without one, of a seed that the system draws.
+    Drawn(u64, Option<u64>),
+}
+
+/// The cases of a suite that are played.
+#[derive(Clone, Copy)]
+pub struct Cases<'a> {
+    /// The file of the suite. `None` for the built-in one.
+    pub suite: Option<&'a str>,
+    /// The patterns of the names of the cases that are played. Without one, all are.
+    pub patterns: &'a [&'a str],
+}
 
 /// What is tested, and how the results are reported.
 #[derive(Clone, Copy)]
@@ -25,31 +45,40 @@ pub struct TesterSetup<'a> {
     pub upper: Option<&'a str>,
     /// The stack file.
     pub stack: Option<&'a str>,
-    /// The file of the suite. `None` for the built-in one.
-    pub suite: Option<&'a str>,
-    /// The patterns of the names of the cases that are played. Without one, all are.
-    pub patterns: &'a [&'a str],
+    /// What is played.
+    pub play: Play<'a>,
     /// Whether each case begins with a new connection, with which the stack starts anew.
     pub anew: bool,
     /// How the results are reported.
     pub results: ResultStyle<'a>,
 }
 
-/// Plays a suite against a stack, and reports the results. Returns the exit status: 0 if no case
-/// failed, 1 if one did, 2 if a file or a pattern is wrong, 3 after a device fault, 4 if an
-/// allocation failed or no case passed or failed.
+/// Plays cases or drawn stimuli against a stack, and reports the results. Returns the exit status:
+/// 0 if no case failed, 1 if one did, 2 if a file or a pattern is wrong, 3 after a device fault, 4
+/// if an allocation failed or no case passed or failed.
 pub fn run_tester(rt: &HostRuntime, setup: &TesterSetup<'_>) -> u8 {
-    match prepared(rt, setup) {
-        Ok((stack, suite)) => test(rt, setup, &stack, &suite),
+    match stack_of(rt, setup) {
+        Ok(stack) => test(rt, setup, &stack),
         Err(status) => status,
     }
 }
 
-/// The stack and the suite of a run.
-fn prepared<'a>(rt: &HostRuntime, setup: &TesterSetup<'a>) -> Result<(Stack, Suite<'a>), u8> {
-    let stack = stack_of(rt, setup)?;
-    let suite = Suite::read(rt, setup.suite)?;
-    Ok((stack, suite))
+fn test(rt: &HostRuntime, setup: &TesterSetup<'_>, stack: &Stack) -> u8 {
+    match setup.play {
+        Play::Cases(cases) => test_by_cases(rt, setup, stack, cases),
+        Play::Drawn(count, seed) => {
+            let seed = seed.unwrap_or(drawn_seed(rt));
+            test_by_draws(rt, setup, stack, DrawPlan { count, seed })
+        }
+    }
+}
+
+/// A seed that the system draws, below 2^32.
+fn drawn_seed(rt: &HostRuntime) -> u64 {
+    let mut octets = [0; 4];
+    // If the system can't draw octets, they stay 0.
+    let _ = rt.fill_bytes(&mut octets);
+    u64::from(u32::from_be_bytes(octets))
 }
 
 /// The stack of the stack file, or the usual one. Without an upper tester it takes no requests.
@@ -75,29 +104,81 @@ fn stack_in(rt: &HostRuntime, side: Side, file: &str) -> Result<Stack, u8> {
     }
 }
 
-/// Connects to the stack, and plays the cases.
-fn test(rt: &HostRuntime, setup: &TesterSetup<'_>, stack: &Stack, suite: &Suite<'_>) -> u8 {
-    let selection = Selection {
-        patterns: setup.patterns,
-    };
+/// Plays the cases of a suite.
+fn test_by_cases(rt: &HostRuntime, setup: &TesterSetup<'_>, stack: &Stack, cases: Cases<'_>) -> u8 {
+    match Suite::read(rt, cases.suite) {
+        Ok(suite) => test_by_suite(rt, setup, stack, &suite, cases.patterns),
+        Err(status) => status,
+    }
+}
+
+fn test_by_suite(
+    rt: &HostRuntime,
+    setup: &TesterSetup<'_>,
+    stack: &Stack,
+    suite: &Suite<'_>,
+    patterns: &[&str],
+) -> u8 {
+    let selection = Selection { patterns };
     let count = match suite.count(rt, &selection) {
         Ok(count) => count,
         Err(status) => return status,
     };
     let notes = Notes::new(rt);
-    let mut printed = match Printed::new(rt, setup.side, setup.results) {
-        Ok(printed) => printed,
-        Err(status) => return status,
-    };
-    let mut station = match station_of(rt, &notes, setup) {
-        Ok(station) => station,
+    let (mut printed, mut station) = match begun(rt, &notes, setup) {
+        Ok(begun) => begun,
         Err(status) => return status,
     };
     let mut run = Run::new(rt.alloc(), stack, selection, count);
     let ended = suite.play(rt, &mut run, &mut station, &mut printed);
-    let status = end(rt, &run, &station, &mut printed, ended);
+    let status = match stopped(rt, &printed, ended) {
+        Some(status) => status,
+        None => match printed.finish(run.tally()) {
+            Ok(()) if ended.is_ok() => run.tally().status(),
+            Ok(()) => print_lost(rt, run.number(), station.fault()),
+            Err(status) => status,
+        },
+    };
     connection::close(rt, &notes, station.into_stream());
     status
+}
+
+/// Plays drawn stimuli.
+fn test_by_draws(rt: &HostRuntime, setup: &TesterSetup<'_>, stack: &Stack, plan: DrawPlan) -> u8 {
+    let notes = Notes::new(rt);
+    let (mut printed, mut station) = match begun(rt, &notes, setup) {
+        Ok(begun) => begun,
+        Err(status) => return status,
+    };
+    let mut run = DrawnRun::new(rt.alloc(), stack, plan);
+    let ended = run.play(&mut station, &mut printed);
+    let counts = run.counts();
+    let status = match stopped(rt, &printed, ended) {
+        Some(status) => status,
+        None => match printed.finish_drawn(&counts) {
+            Ok(()) if ended.is_ok() => counts.tally.status(),
+            Ok(()) => print_lost(rt, run.number(), station.fault()),
+            Err(status) => status,
+        },
+    };
+    connection::close(rt, &notes, station.into_stream());
+    status
+}
+
+/// The results, and the connection to the stack.
+///
+/// # Errors
+///
+/// The exit status if there is no folder of reports or no connection, which is reported.
+fn begun<'a>(
+    rt: &'a HostRuntime,
+    notes: &Notes<'_>,
+    setup: &TesterSetup<'a>,
+) -> Result<(Printed<'a>, TcpStation<'a>), u8> {
+    let is_drawn = matches!(setup.play, Play::Drawn(_, _));
+    let printed = Printed::new(rt, setup.side, setup.results, is_drawn)?;
+    let station = station_of(rt, notes, setup)?;
+    Ok((printed, station))
 }
 
 /// The stack, reached over its connection and that of its upper tester.
@@ -144,25 +225,12 @@ fn upper_of(
     }
 }
 
-/// Reports how a run ended, and prints the counts. Returns the exit status.
-fn end(
-    rt: &HostRuntime,
-    run: &Run<'_>,
-    station: &TcpStation<'_>,
-    printed: &mut Printed<'_>,
-    ended: Result<(), Halt>,
-) -> u8 {
+/// The exit status of a run that ended without counts, which is reported.
+fn stopped(rt: &HostRuntime, printed: &Printed<'_>, ended: Result<(), Halt>) -> Option<u8> {
     printed.erase();
     match ended {
-        Err(Halt::Output) => return printed.print_fault(),
-        Err(Halt::Memory) => return print_memory(rt),
-        Ok(()) | Err(Halt::Closed) => {}
-    }
-    if let Err(status) = printed.finish(run.tally()) {
-        return status;
-    }
-    match ended {
-        Err(_) => print_lost(rt, run.number(), station.fault()),
-        Ok(()) => run.tally().status(),
+        Err(Halt::Output) => Some(printed.print_fault()),
+        Err(Halt::Memory) => Some(print_memory(rt)),
+        Ok(()) | Err(Halt::Closed) => None,
     }
 }

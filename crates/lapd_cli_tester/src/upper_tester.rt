@@ -1,7 +1,7 @@
 //! The upper tester of a stack: a connection that takes requests as lines, and answers each.
 
 use lapd_cli_script::{KindReason, first_line};
-use lapd_conform::Request;
+use lapd_conform::{Request, request_word};
 use std::alloc::{AllocError, Global};
 use std::fmt;
 use std::io::{self, ErrorKind, Read, Write};
@@ -170,23 +170,9 @@ fn without_return(line: &[u8]) -> &[u8] {
 
 /// The line of a request, with its line feed.
 fn request_line(alloc: Global, request: Request, tei: u16) -> Result<String, AllocError> {
-    let word = word_of(request);
+    let word = request_word(request);
     match request {
         Request::Ask => format!(in alloc; "{word}\n"),
         _ => format!(in alloc; "{word} {tei}\n"),
-    }
-}
-
-fn word_of(request: Request) -> &'static str {
-    match request {
-        Request::Establish => "establish",
-        Request::Release => "release",
-        Request::Give => "give",
-        Request::Unit => "unit",
-        Request::Busy => "busy",
-        Request::Ready => "ready",
-        Request::Ask => "ask",
-        Request::Check => "check",
-        Request::Remove => "remove",
     }
 }

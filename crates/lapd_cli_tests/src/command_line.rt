@@ -6,7 +6,7 @@ use crate::scenarios::words_of;
 use lapd_cli_options::{
     CaseChoice, Chosen, Clock, Color, Conformance, DecodeOptions, Durations, Filter, FollowOptions,
     Interface, Invocation, Job, NoInvocation, Params, PrintedLayout, PrintedTime, Recovery, Side,
-    help, parse_words,
+    Stimuli, help, parse_words,
 };
 use lapd_cli_script::{PortFault, ScriptFault};
 use lapd_timers::Timer;
@@ -311,6 +311,18 @@ lapd conform --of=user --listen=:1 --upper b:2 --stack s => test user listen :1 
 lapd conform --cases 7-* --cases=8-V-12 --connect a:1 --of net --suite t => test net connect a:1 - - t of 7-* 8-V-12
 lapd conform --listen a:1 --of user --anew --json --report d => test user listen a:1 - - - anew json into d -
 lapd conform --junit=j --connect a:1 --of net => test net connect a:1 - - - into - j
+lapd conform --connect a:1 --of net --draw 500 => test net connect a:1 - - draw 500
+lapd conform --connect a:1 --of net --draw=1 --seed 18446744073709551615 --anew => test net connect a:1 - - draw 1 seed 18446744073709551615 anew
+lapd conform --listen a:1 --of user --draw 1000000 --seed=0 --upper b:2 --stack s --report d --junit j => test user listen a:1 b:2 s draw 1000000 seed 0 into d j
+lapd conform --connect a:1 --of net --draw 0 => error: invalid value '0' for '--draw <STIMULI>': not a number from 1 to 1000000 in decimal digits~
+lapd conform --connect a:1 --of net --draw 1000001 => error: invalid value '1000001' for '--draw <STIMULI>': not a number from 1 to 1000000 in decimal digits~
+lapd conform --connect a:1 --of net --draw 5 --seed -1 => error: invalid value '-1' for '--seed <NUMBER>': not a number from 0 to 18446744073709551615 in decimal digits~
+lapd conform --connect a:1 --of net --seed 5 => error: --seed requires --draw~
+lapd conform --print --seed 5 => error: --seed requires --draw~
+lapd conform --connect a:1 --of net --draw 5 --cases 7-* => error: --draw cannot be used with --cases~
+lapd conform --connect a:1 --of net --draw 5 --suite t => error: --draw cannot be used with --suite~
+lapd conform --print --draw 5 => error: --draw cannot be used with --print~
+lapd conform --draw 5 => error: --of net or --of user is required: the side that is tested~
 lapd conform --print => print -
 lapd conform --print --suite t --cases *-T-* => print t of *-T-*
 lapd conform --help => a text
@@ -382,12 +394,24 @@ fn show_conformance(text: &mut String, conformance: &Conformance<'_>) {
             let how = if test.listens { "listen" } else { "connect" };
             let (upper, stack) = (test.upper.unwrap_or("-"), test.stack.unwrap_or("-"));
             let _ = write!(text, "test {side} {how} {} {upper} {stack}", test.address);
-            show_cases(text, &test.cases);
+            show_stimuli(text, &test.stimuli);
             let _ = text.push_str(if test.anew { " anew" } else { "" });
             let _ = text.push_str(if test.json { " json" } else { "" });
             if test.report.is_some() || test.junit.is_some() {
                 let (report, junit) = (test.report.unwrap_or("-"), test.junit.unwrap_or("-"));
                 let _ = write!(text, " into {report} {junit}");
+            }
+        }
+    }
+}
+
+fn show_stimuli(text: &mut String, stimuli: &Stimuli<'_>) {
+    match stimuli {
+        Stimuli::Cases(cases) => show_cases(text, cases),
+        Stimuli::Drawn(count, seed) => {
+            let _ = write!(text, " draw {count}");
+            if let Some(seed) = seed {
+                let _ = write!(text, " seed {seed}");
             }
         }
     }
