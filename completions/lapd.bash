@@ -36,7 +36,7 @@ _lapd() {
             offered="--strict --help"
             case ${COMP_WORDS[1]} in
                 conform)
-                    offered="--connect --listen --of --stack --upper --cases --suite --draw --seed --anew --report --junit"
+                    offered="--connect --listen --of --stack --upper --cases --suite --known --draw --seed --anew --report --junit"
                     offered+=" --json --print --help"
                     ;;
                 answer) offered+=" --side --sapi --tei --k --n200 --room --recovery" ;;

@@ -58,9 +58,10 @@ fn run_test_at<'a>(rt: &HostRuntime, test: &'a StackTest<'a>, address: &'a str) 
 // What is played.
 fn play_of<'a>(test: &'a StackTest<'a>) -> Play<'a> {
     match &test.stimuli {
-        Stimuli::Cases(cases) => Play::Cases(Cases {
+        Stimuli::Cases(cases, known) => Play::Cases(Cases {
             suite: cases.suite,
             patterns: cases.patterns.as_slice(),
+            known: known.as_slice(),
         }),
         Stimuli::Drawn(count, seed) => Play::Drawn(*count, *seed),
     }

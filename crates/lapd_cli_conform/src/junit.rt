@@ -11,7 +11,7 @@ use std::alloc::{AllocError, Global};
 const END: &[u8] = b"</testsuite>\n</testsuites>\n";
 
 /// Appends the test case of a result, which took so many milliseconds. A case that fails is a
-/// failure; one that is inconclusive or does not apply is skipped.
+/// failure; one that fails as is known, is inconclusive or does not apply is skipped.
 ///
 /// # Errors
 ///
@@ -35,6 +35,7 @@ pub fn push_test_case(
             Ok(())
         }
         Grade::Fail => push_failure(text, report),
+        Grade::Known => push_skipped(text, b"known to fail: ", report.reason),
         Grade::Inconclusive => push_skipped(text, b"inconclusive: ", report.reason),
         Grade::NotApplicable => push_skipped(text, b"needs ", report.needs),
     }
@@ -70,7 +71,10 @@ fn push_skipped(text: &mut Vec<u8>, what: &[u8], reason: &[u8]) -> Result<(), Al
 /// An allocation failed.
 pub fn junit_file(alloc: Global, tally: Tally, cases: &[u8]) -> Result<Vec<u8>, AllocError> {
     let (count, failed) = (tally.cases(), tally.failed);
-    let skipped = tally.inconclusive.saturating_add(tally.not_applicable);
+    let skipped = tally
+        .inconclusive
+        .saturating_add(tally.not_applicable)
+        .saturating_add(tally.known);
     let head = format!(in alloc;
         "<?xml version=\"1.0\" encoding=\"UTF-8\"?>\n<testsuites>\n<testsuite name=\"lapd conform\" tests=\"{count}\" failures=\"{failed}\" errors=\"0\" skipped=\"{skipped}\">\n"
     )?;

@@ -1,7 +1,7 @@
 //! The line of a result.
 
 ghost use Rattle.std.specs.Prelude.{◌≡◌, ◌++◌, OnOk};
-ghost use Rattle.lapd_cli_conform.specs.Results.{frames_text, grade_word, part_text, result_line, tail_by};
+ghost use Rattle.lapd_cli_conform.specs.Results.{frames_text, grade_word, known_grade, part_text, result_line, tail_by};
 
 use std::alloc::AllocError;
 
@@ -12,6 +12,8 @@ pub enum Grade {
     Pass,
     /// The case failed.
     Fail,
+    /// The case failed, as is known.
+    Known,
     /// Nothing was decided.
     Inconclusive,
     /// The case does not apply to the stack.
@@ -26,8 +28,19 @@ impl Grade {
         match self {
             Grade::Pass => b"pass",
             Grade::Fail => b"fail",
+            Grade::Known => b"known",
             Grade::Inconclusive => b"inconclusive",
             Grade::NotApplicable => b"n/a",
+        }
+    }
+
+    /// The grade of a case that is known to fail, or not: a fail that is known is none.
+    pub fn if_known(self, is_known: bool) -> Grade
+        ensures { result ≡ known_grade self is_known }
+    {
+        match self {
+            Grade::Fail if is_known => Grade::Known,
+            _ => self,
         }
     }
 }
@@ -45,7 +58,7 @@ pub struct CaseReport<'t> {
     pub clause: &'t [u8],
     /// What the stack lacks for the case.
     pub needs: &'t [u8],
-    /// Why nothing was decided.
+    /// Why the case failed, or nothing was decided; or that it passed and is known to fail.
     pub reason: &'t [u8],
     /// The frames that were expected.
     pub wanted: &'t [u8],
@@ -79,13 +92,13 @@ fn push_tail(text: &mut Vec<u8>, report: &CaseReport<'_>) -> Result<(), AllocErr
     ensures { OnOk result (text.new.items ≡ text.old.items ++ tail_by report.now.grade report.now) }
 {
     match report.grade {
-        Grade::Pass => Ok(()),
+        Grade::Pass => push_part(text, b"", report.reason),
         Grade::NotApplicable => push_part(text, b"needs ", report.needs),
         Grade::Inconclusive => {
             push_part(text, b"", report.reason)?;
             push_frames(text, report)
         }
-        Grade::Fail => {
+        Grade::Fail | Grade::Known => {
             push_part(text, b"", report.reason)?;
             push_part(text, b"clause ", report.clause)?;
             push_frames(text, report)

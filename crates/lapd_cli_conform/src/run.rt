@@ -1,5 +1,6 @@
 //! A run of a suite against a stack.
 
+use crate::known::KnownCases;
 use crate::pattern::fits;
 use crate::reasons::lack_words;
 use crate::results::{CaseReport, Grade};
@@ -11,6 +12,9 @@ use lapd_conform::{
     play,
 };
 use std::alloc::{AllocError, Global};
+
+/// The remark on a case that passes, and is known to fail.
+const KNOWN_PASSES: &str = "it is known to fail, and passes";
 
 /// The greatest number of cases of a text.
 const MOST_CASES: usize = 1_000_000;
@@ -60,6 +64,7 @@ pub struct Run<'a> {
     alloc: Global,
     stack: &'a Stack,
     selection: Selection<'a>,
+    known: KnownCases<'a>,
     session: Session,
     /// The number of cases that are played in all.
     count: u64,
@@ -140,12 +145,19 @@ pub fn name_of(alloc: Global, case: &Case<'_>) -> Result<String, AllocError> {
 }
 
 impl<'a> Run<'a> {
-    /// A run of so many cases against this stack.
-    pub fn new(alloc: Global, stack: &'a Stack, selection: Selection<'a>, count: u64) -> Run<'a> {
+    /// A run of so many cases against this stack, of which some are known to fail.
+    pub fn new(
+        alloc: Global,
+        stack: &'a Stack,
+        selection: Selection<'a>,
+        known: KnownCases<'a>,
+        count: u64,
+    ) -> Run<'a> {
         Run {
             alloc,
             stack,
             selection,
+            known,
             session: Session::new(),
             count,
             number: 0,
@@ -232,14 +244,19 @@ impl<'a> Run<'a> {
         let mut wanted = Vec::new(self.alloc);
         push_wanted(&mut wanted, text, played.line)?;
         let seen = seen_frame(self.alloc, self.stack.side, played)?;
-        let grade = grade_of(played.verdict);
+        let is_known = self.known.has(name);
+        let grade = grade_of(played.verdict).if_known(is_known);
+        let reason = match grade {
+            Grade::Pass if is_known => KNOWN_PASSES,
+            _ => reason_of(played),
+        };
         let report = CaseReport {
             grade,
             name: name.as_bytes(),
             title: case.title,
             clause: case.clause(),
             needs: &[],
-            reason: reason_of(played).as_bytes(),
+            reason: reason.as_bytes(),
             wanted: wanted.as_slice(),
             seen: seen.as_bytes(),
             suite: &[],

@@ -6,13 +6,15 @@ ghost use Rattle.lapd_cli_conform.specs.Tallies.{counted, no_case, status_of};
 use crate::results::Grade;
 use std::fmt;
 
-/// How many cases passed, failed, were inconclusive, and do not apply.
+/// How many cases passed, failed, failed as is known, were inconclusive, and do not apply.
 #[derive(Clone, Copy, Debug, PartialEq, Eq)]
 pub struct Tally {
     /// Cases that passed.
     pub passed: u64,
     /// Cases that failed.
     pub failed: u64,
+    /// Cases that failed, as is known.
+    pub known: u64,
     /// Inconclusive cases.
     pub inconclusive: u64,
     /// Cases that do not apply.
@@ -33,6 +35,7 @@ impl Tally {
         Tally {
             passed: 0,
             failed: 0,
+            known: 0,
             inconclusive: 0,
             not_applicable: 0,
         }
@@ -51,6 +54,10 @@ impl Tally {
                 failed: self.failed.saturating_add(1),
                 ..self
             },
+            Grade::Known => Tally {
+                known: self.known.saturating_add(1),
+                ..self
+            },
             Grade::Inconclusive => Tally {
                 inconclusive: self.inconclusive.saturating_add(1),
                 ..self
@@ -62,13 +69,13 @@ impl Tally {
         }
     }
 
-    /// The exit status: 1 if a case failed, 4 if none passed or failed, else 0.
+    /// The exit status: 1 if a case failed that is not known to, 4 if none passed or failed, else 0.
     pub fn status(self) -> u8
         ensures { result ≡ status_of self }
     {
         if self.failed != 0 {
             FAILED
-        } else if self.passed == 0 {
+        } else if self.passed == 0 && self.known == 0 {
             NOTHING_JUDGED
         } else {
             0
@@ -79,6 +86,7 @@ impl Tally {
     pub fn cases(self) -> u64 {
         self.passed
             .saturating_add(self.failed)
+            .saturating_add(self.known)
             .saturating_add(self.inconclusive)
             .saturating_add(self.not_applicable)
     }
@@ -92,6 +100,10 @@ impl fmt::Display for Tally {
             f,
             "{} cases: {passed} pass, {failed} fail, {inconclusive} inconclusive, {lacking} n/a",
             self.cases()
-        )
+        )?;
+        if self.known != 0 {
+            write!(f, ", {} known", self.known)?;
+        }
+        Ok(())
     }
 }

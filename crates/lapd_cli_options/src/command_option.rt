@@ -23,6 +23,8 @@ pub(crate) enum CommandOption {
     Span(&'static str, &'static str),
     /// An option with a pattern, which may be repeated: its name and its help text.
     Patterns(&'static str, &'static str),
+    /// An option with names, which may be repeated: its name and its help text.
+    Names(&'static str, &'static str),
     /// An option with one of a few words.
     Word(WordOption),
     /// An option with one of a few words and no default.
@@ -67,6 +69,9 @@ pub(crate) fn arg_of<'a>(alloc: Global, option: &CommandOption) -> Arg<'a> {
         CommandOption::Span(name, help) => value_arg(alloc, name, "SPAN", help),
         CommandOption::Patterns(name, help) => {
             value_arg(alloc, name, "PATTERN", help).action(ArgAction::Append)
+        }
+        CommandOption::Names(name, help) => {
+            value_arg(alloc, name, "NAMES", help).action(ArgAction::Append)
         }
         CommandOption::Word(option) => word_arg(alloc, option),
         CommandOption::BareWord(option) => bare_word_arg(alloc, option),

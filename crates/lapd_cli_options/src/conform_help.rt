@@ -26,6 +26,10 @@ Plays only cases whose names fit, such as '7-*' or
 
 pub const SUITE: &str = "Plays the suite in this file, not the built-in one";
 
+pub const KNOWN: &str = "\
+Cases that are known to fail, such as
+7-V-01,8-O-02: they do not fail the run";
+
 pub const DRAW: &str = "\
 Draws so many stimuli in place of the suite, 1 to
 1000000, and ends at the first wrong answer";
@@ -67,6 +71,8 @@ Output: a line for each case, and at the end the counts. Standard error has the 
   pass NAME TITLE       the purpose of the case was reached, and the state table allows all frames
   fail NAME TITLE; REASON; clause CLAUSE; wanted FRAMES; seen FRAME
                         the state table does not allow the frame that was seen, or its absence
+  known NAME TITLE; REASON; clause CLAUSE; wanted FRAMES; seen FRAME
+                        the same, of a case of --known
   inconclusive NAME TITLE; REASON; wanted FRAMES; seen FRAME
                         nothing was decided, for this reason
   n/a NAME TITLE; needs NEED
@@ -117,11 +123,12 @@ With --report DIR, a case that fails is written to DIR/NAME.pcap, a capture, and
 its frames as lines that `lapd decode` reads. With --json a result has the members case, clause,
 needs, reason, seen, title, verdict and wanted, unless they are empty, and the counts are not
 printed. With --draw the result has also the member suite, and the counts are an object with the
-members failed, rounds, seed, stimuli and unjudged. In the file of --junit an inconclusive case is skipped, and so is one that does not apply.
+members failed, rounds, seed, stimuli and unjudged. In the file of --junit an inconclusive case is skipped, and so is one that does not
+apply or is known to fail.
 
 Exit status:
-  0  no case failed
-  1  a case failed
+  0  no case failed, or --known has each that did
+  1  another case failed
   2  the command line, the stack file or the suite is not valid
   3  `device fault`: no connection could be made, or it was lost; or a file could not be read or
      written

@@ -30,8 +30,9 @@ pub struct CaseChoice<'a> {
 /// What is played against a stack.
 #[derive(Drop)]
 pub enum Stimuli<'a> {
-    /// Cases of a suite.
-    Cases(CaseChoice<'a>),
+    /// Cases of a suite, and the names of those that are known to fail, unchanged from the command
+    /// line.
+    Cases(CaseChoice<'a>, Vec<&'a str>),
     /// So many drawn stimuli, of this seed; without one, of any.
     Drawn(u64, Option<u64>),
 }
@@ -68,7 +69,7 @@ pub(crate) fn conformance_of<'a>(
 ) -> Result<Conformance<'a>, NoInvocation<'a>> {
     let stimuli = stimuli_of(alloc, given)?;
     match stimuli {
-        Stimuli::Cases(cases) if given.get_flag("print") => Ok(Conformance::Print(cases)),
+        Stimuli::Cases(cases, _) if given.get_flag("print") => Ok(Conformance::Print(cases)),
         stimuli => test_of(given, stimuli),
     }
 }
@@ -99,7 +100,7 @@ fn stimuli_of<'a>(alloc: Global, given: &ArgMatches<'a>) -> Result<Stimuli<'a>, 
     let Some(count) = number_of(given, DRAW)? else {
         return match seed {
             Some(_) => Err(NoInvocation::NotDrawn(DRAW_SEED.name)),
-            None => Ok(Stimuli::Cases(cases_of(alloc, given)?)),
+            None => cases_played(alloc, given),
         };
     };
     match option_of_cases(given) {
@@ -108,12 +109,38 @@ fn stimuli_of<'a>(alloc: Global, given: &ArgMatches<'a>) -> Result<Stimuli<'a>, 
     }
 }
 
+fn cases_played<'a>(
+    alloc: Global,
+    given: &ArgMatches<'a>,
+) -> Result<Stimuli<'a>, NoInvocation<'a>> {
+    let cases = cases_of(alloc, given)?;
+    let known = texts_of(alloc, given, "known")?;
+    Ok(Stimuli::Cases(cases, known))
+}
+
+// The values of this option, which may be repeated.
+fn texts_of<'a>(
+    alloc: Global,
+    given: &ArgMatches<'a>,
+    option: &str,
+) -> Result<Vec<&'a str>, NoInvocation<'a>> {
+    let mut values = Vec::new(alloc);
+    if let Some(texts) = given.get_strs(option) {
+        if values.extend_from_slice(texts).is_err() {
+            return Err(NoInvocation::Memory);
+        }
+    }
+    Ok(values)
+}
+
 // The first option that chooses or prints cases.
 fn option_of_cases(given: &ArgMatches<'_>) -> Option<&'static str> {
     if given.get_strs("cases").is_some() {
         Some("cases")
     } else if given.get_str("suite").is_some() {
         Some("suite")
+    } else if given.get_strs("known").is_some() {
+        Some("known")
     } else if given.get_flag("print") {
         Some("print")
     } else {
@@ -136,15 +163,9 @@ fn number_of<'a>(
 }
 
 fn cases_of<'a>(alloc: Global, given: &ArgMatches<'a>) -> Result<CaseChoice<'a>, NoInvocation<'a>> {
-    let mut patterns = Vec::new(alloc);
-    if let Some(texts) = given.get_strs("cases") {
-        if patterns.extend_from_slice(texts).is_err() {
-            return Err(NoInvocation::Memory);
-        }
-    }
     Ok(CaseChoice {
         suite: given.get_str("suite"),
-        patterns,
+        patterns: texts_of(alloc, given, "cases")?,
     })
 }
 

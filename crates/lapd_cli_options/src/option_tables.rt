@@ -116,6 +116,7 @@ pub(crate) const CONFORM: &[&[CommandOption]] = &[&[
     CommandOption::Address(UPPER),
     CommandOption::Patterns("cases", conform_help::CASES),
     CommandOption::File("suite", conform_help::SUITE),
+    CommandOption::Names("known", conform_help::KNOWN),
     CommandOption::BareNumber(DRAW),
     CommandOption::BareNumber(DRAW_SEED),
     CommandOption::Flag("anew", conform_help::ANEW),

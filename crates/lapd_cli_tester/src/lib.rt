@@ -9,6 +9,7 @@
 
 mod case_files;
 mod chosen_cases;
+mod closest;
 mod frame_text;
 mod origin;
 mod printed;

@@ -27,6 +27,15 @@ pub(crate) fn print_no_case(rt: &HostRuntime, pattern: &str) -> u8 {
     COMMAND_LINE
 }
 
+/// Reports that a suite has no case of a name, and the closest name that it has.
+pub(crate) fn print_no_such_case(rt: &HostRuntime, name: &str, closest: &str) -> u8 {
+    let _ = eprintln!(rt;
+        "error: no case has the name --known {}; the closest is {closest}",
+        Escaped(name)
+    );
+    COMMAND_LINE
+}
+
 /// Reports that a file cannot be read.
 pub(crate) fn print_no_file(rt: &HostRuntime, file: &str, error: &io::Error) -> u8 {
     let _ = eprintln!(rt; "{}", ScriptFault::Device);

@@ -1,6 +1,7 @@
 //! A run of the conformance tester against a stack.
 
 use crate::chosen_cases::Suite;
+use crate::closest::check_known;
 use crate::origin::{Address, Origin};
 use crate::printed::{Printed, ResultStyle};
 use crate::refused::{
@@ -9,7 +10,8 @@ use crate::refused::{
 use crate::station::TcpStation;
 use crate::upper_tester::UpperTester;
 use lapd_cli_conform::{
-    DrawPlan, DrawnRun, Halt, Run, Selection, Stack, read_stack, usual_stack, without_upper,
+    DrawPlan, DrawnRun, Halt, KnownCases, Run, Selection, Stack, read_stack, usual_stack,
+    without_upper,
 };
 use lapd_cli_io::connection;
 use lapd_cli_outputs::Notes;
@@ -32,6 +34,8 @@ pub struct Cases<'a> {
     pub suite: Option<&'a str>,
     /// The patterns of the names of the cases that are played. Without one, all are.
     pub patterns: &'a [&'a str],
+    /// The names of the cases that are known to fail, each text with commas between them.
+    pub known: &'a [&'a str],
 }
 
 /// What is tested, and how the results are reported.
@@ -107,7 +111,7 @@ fn stack_in(rt: &HostRuntime, side: Side, file: &str) -> Result<Stack, u8> {
 /// Plays the cases of a suite.
 fn test_by_cases(rt: &HostRuntime, setup: &TesterSetup<'_>, stack: &Stack, cases: Cases<'_>) -> u8 {
     match Suite::read(rt, cases.suite) {
-        Ok(suite) => test_by_suite(rt, setup, stack, &suite, cases.patterns),
+        Ok(suite) => test_by_suite(rt, setup, stack, &suite, cases),
         Err(status) => status,
     }
 }
@@ -117,19 +121,25 @@ fn test_by_suite(
     setup: &TesterSetup<'_>,
     stack: &Stack,
     suite: &Suite<'_>,
-    patterns: &[&str],
+    cases: Cases<'_>,
 ) -> u8 {
-    let selection = Selection { patterns };
+    let selection = Selection {
+        patterns: cases.patterns,
+    };
     let count = match suite.count(rt, &selection) {
         Ok(count) => count,
         Err(status) => return status,
     };
+    if let Err(status) = check_known(rt, suite, cases.known) {
+        return status;
+    }
+    let known = KnownCases { lists: cases.known };
     let notes = Notes::new(rt);
     let (mut printed, mut station) = match begun(rt, &notes, setup) {
         Ok(begun) => begun,
         Err(status) => return status,
     };
-    let mut run = Run::new(rt.alloc(), stack, selection, count);
+    let mut run = Run::new(rt.alloc(), stack, selection, known, count);
     let ended = suite.play(rt, &mut run, &mut station, &mut printed);
     let status = match stopped(rt, &printed, ended) {
         Some(status) => status,

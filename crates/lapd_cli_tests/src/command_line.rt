@@ -311,6 +311,8 @@ lapd conform --of=user --listen=:1 --upper b:2 --stack s => test user listen :1 
 lapd conform --cases 7-* --cases=8-V-12 --connect a:1 --of net --suite t => test net connect a:1 - - t of 7-* 8-V-12
 lapd conform --listen a:1 --of user --anew --json --report d => test user listen a:1 - - - anew json into d -
 lapd conform --junit=j --connect a:1 --of net => test net connect a:1 - - - into - j
+lapd conform --connect a:1 --of net --known 7-V-01,7-V-02 --known=8-V-01 => test net connect a:1 - - - known 7-V-01,7-V-02 known 8-V-01
+lapd conform --connect a:1 --of net --draw 5 --known 7-V-01 => error: --draw cannot be used with --known~
 lapd conform --connect a:1 --of net --draw 500 => test net connect a:1 - - draw 500
 lapd conform --connect a:1 --of net --draw=1 --seed 18446744073709551615 --anew => test net connect a:1 - - draw 1 seed 18446744073709551615 anew
 lapd conform --listen a:1 --of user --draw 1000000 --seed=0 --upper b:2 --stack s --report d --junit j => test user listen a:1 b:2 s draw 1000000 seed 0 into d j
@@ -407,7 +409,12 @@ fn show_conformance(text: &mut String, conformance: &Conformance<'_>) {
 
 fn show_stimuli(text: &mut String, stimuli: &Stimuli<'_>) {
     match stimuli {
-        Stimuli::Cases(cases) => show_cases(text, cases),
+        Stimuli::Cases(cases, known) => {
+            show_cases(text, cases);
+            for names in known {
+                let _ = write!(text, " known {names}");
+            }
+        }
         Stimuli::Drawn(count, seed) => {
             let _ = write!(text, " draw {count}");
             if let Some(seed) = seed {

@@ -1,8 +1,8 @@
 //! Tests of the texts of `conform`: stack files, patterns, and results.
 
 use lapd_cli_conform::{
-    CaseReport, DrawPlan, Grade, Stack, fits, push_found, push_line, push_object, push_test_case,
-    push_wanted, read_stack,
+    CaseReport, DrawPlan, Grade, KnownCases, Stack, Tally, fits, push_found, push_line,
+    push_object, push_test_case, push_wanted, read_stack,
 };
 use lapd_sides::Side;
 use lapd_test_text::{Subject, Text, split, wrong_row};
@@ -48,6 +48,19 @@ wanted 1 | quiet 100 ms;quiet 5 ms | nothing for 100 ms
 wanted 2 | a;state 7 | state 7
 wanted 3 | a;b |
 line pass | n;t;c;;;w;s | pass n t~
+line pass | n;t;c;;r | pass n t; r~
+line known | n;t;c;;r;w;s | known n t; r; clause c; wanted w; seen s~
+json known | n;t;c;;r;w;s | {\"case\":\"n\",\"clause\":\"c\",\"reason\":\"r\",\"seen\":\"s\",\"title\":\"t\",\"verdict\":\"known\",\"wanted\":\"w\"}~
+junit known | n;t;c;;r;w;s | <testcase classname=\"lapd conform\" name=\"n t\" time=\"1.005\"><skipped message=\"known to fail: r\"/></testcase>~
+known 7-V-01 | 7-V-01 | yes
+known 7-V-01 | 8-V-01,7-V-01 | yes
+known 7-V-01 | 8-V-01,7-V-012 | no
+known 7-V-01 | 7-* | no
+known 7-V-01 | | no
+tally pass known | 0 | 2 cases: 1 pass, 0 fail, 0 inconclusive, 0 n/a, 1 known
+tally known | 0 | 1 cases: 0 pass, 0 fail, 0 inconclusive, 0 n/a, 1 known
+tally known fail | 1 | 2 cases: 0 pass, 1 fail, 0 inconclusive, 0 n/a, 1 known
+tally inconclusive n/a | 4 | 2 cases: 0 pass, 0 fail, 1 inconclusive, 1 n/a
 line fail | n;t;c;;r;w;s | fail n t; r; clause c; wanted w; seen s~
 line fail | n;t;c;;;;s | fail n t; clause c; seen s~
 line inconclusive | n;t;c;;r;w;s | inconclusive n t; r; wanted w; seen s~
@@ -115,6 +128,19 @@ fn show_stack(stack: &Stack, made: &mut Text) {
     made.shown(" ", &stack.delay);
 }
 
+/// The counts of these grades, if their status is this one.
+fn put_tally(grades: &str, status: &str, made: &mut Text) {
+    let mut tally = Tally::new();
+    for word in grades.split(' ') {
+        tally = tally.with(grade_named(word));
+    }
+    if u64::from(tally.status()) == status.parse::<u64>().unwrap_or(9) {
+        made.shown("", &tally);
+    } else {
+        made.shown("status ", &tally.status());
+    }
+}
+
 /// The rounds of so many stimuli, and the stimuli of one of them.
 fn put_plan(count: &str, number: &str, made: &mut Text) {
     let plan = DrawPlan {
@@ -140,6 +166,7 @@ fn grade_named(word: &str) -> Grade {
     match word {
         "pass" => Grade::Pass,
         "fail" => Grade::Fail,
+        "known" => Grade::Known,
         "n/a" => Grade::NotApplicable,
         _ => Grade::Inconclusive,
     }
@@ -221,6 +248,14 @@ impl Subject for Maker {
             }),
             "wanted" => self.put_wanted(word, &lines, &mut own),
             "plan" => put_plan(word, text, &mut own),
+            "known" => own.put(if (KnownCases { lists: &[text] }).has(word) {
+                "yes"
+            } else {
+                "no"
+            }),
+            "tally" => {
+                put_tally(word, text, &mut own);
+            }
             _ => self.put_result(kind, word, text, &mut own),
         }
         let so = own.is(wanted);
