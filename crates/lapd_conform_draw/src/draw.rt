@@ -1,5 +1,7 @@
 //! Drawing the stimuli of a round.
 
+ghost use Rattle.std.specs.Prelude.{◌≡◌, IfOk, length};
+
 use crate::expected::Expected;
 use crate::round::{MOST_PAUSE, Round};
 use crate::stimulus::{DrawnFrame, Stimulus};
@@ -65,7 +67,9 @@ pub fn draw_round(
     seed: u64,
     number: u64,
     count: usize,
-) -> Result<Round, AllocError> {
+) -> Result<Round, AllocError>
+    ensures { IfOk result (λ round. length round.stimuli.items ≡ count) }
+{
     let mut drawer = Drawer {
         alloc,
         stack,
@@ -87,7 +91,9 @@ pub fn draw_round(
 
 impl Drawer<'_> {
     /// Draws so many stimuli.
-    fn stimuli(&mut self, count: usize) -> Result<Vec<Stimulus>, AllocError> {
+    fn stimuli(&mut self, count: usize) -> Result<Vec<Stimulus>, AllocError>
+        ensures { IfOk result (λ stimuli. length stimuli.items ≡ count) }
+    {
         let mut stimuli = Vec::new(self.alloc);
         for _turn in 0..count {
             let stimulus = self.stimulus();
@@ -208,7 +214,9 @@ impl Drawer<'_> {
         if !self.has_paused && !self.once_in(4) {
             return self.pause();
         }
-        if let Some(away) = self.away_from_timers(self.end.now()) {
+        if !self.has_paused
+            && let Some(away) = self.away_from_timers(self.end.now())
+        {
             return Stimulus::Pause(away);
         }
         match self.end.link().named_state() {
@@ -409,7 +417,7 @@ impl Drawer<'_> {
 
     /// One or more messages over the window.
     fn give_many(&mut self) -> Stimulus {
-        let more = (self.below(3) + 1) as u16;
+        let more = (self.below(3) % 3 + 1) as u16;
         let count = u16::from(self.stack.k.min(MOST_WINDOW)).saturating_add(more);
         if self.stack.requests.give {
             Stimulus::Ask(Request::Give, count)

@@ -1,6 +1,7 @@
 //! A round of drawn stimuli, and its text as a case of a suite.
 
 ghost use Rattle.std.specs.Prelude.{◌≡◌, ◌+◌, ◌++◌, IfOk, drop, take};
+ghost use Rattle.lapd_conform_draw.specs.Parts.{Part};
 
 use crate::stimulus::Stimulus;
 use lapd_conform_player::{Preamble, Request, Stack, request_word};
@@ -46,14 +47,11 @@ impl Round {
         count: usize,
         waits: bool,
     ) -> Result<Round, AllocError>
-        ensures { IfOk result (λ round. round.stimuli.items
+        ensures part { IfOk result (λ round. Part round.stimuli.items self.now.stimuli.items) }
+        ensures cut { IfOk result (λ round. round.stimuli.items
             ≡ take place self.now.stimuli.items ++ drop (place + count) self.now.stimuli.items) }
     {
-        let mut stimuli = Vec::new(alloc);
-        let all = self.stimuli.as_slice();
-        stimuli.extend_from_slice(all.get(..place).unwrap_or(all))?;
-        let behind = place.saturating_add(count);
-        stimuli.extend_from_slice(all.get(behind..).unwrap_or(&[]))?;
+        let stimuli = left(alloc, self.stimuli.as_slice(), place, count)?;
         Ok(Round {
             seed: self.seed,
             number: self.number,
@@ -134,6 +132,23 @@ impl Round {
         }
         false
     }
+}
+
+/// These stimuli without this many from this place on.
+fn left(
+    alloc: Global,
+    all: &[Stimulus],
+    place: usize,
+    count: usize,
+) -> Result<Vec<Stimulus>, AllocError>
+    ensures { IfOk result
+        (λ left. left.items ≡ take place all.now ++ drop (place + count) all.now) }
+{
+    let mut stimuli = Vec::new(alloc);
+    stimuli.extend_from_slice(all.get(..place).unwrap_or(all))?;
+    let behind = place.saturating_add(count);
+    stimuli.extend_from_slice(all.get(behind..).unwrap_or(&[]))?;
+    Ok(stimuli)
 }
 
 /// The word of what the stack needs for a request: `ready` needs `busy`.

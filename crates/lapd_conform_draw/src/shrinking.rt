@@ -1,5 +1,8 @@
 //! Leaving out stimuli of a round that fails.
 
+ghost use Rattle.std.specs.Prelude.{IfOk};
+ghost use Rattle.lapd_conform_draw.specs.Parts.{Part};
+
 use crate::round::Round;
 use lapd_conform_player::Lost;
 use std::alloc::Global;
@@ -23,7 +26,9 @@ pub trait Trial {
 /// # Errors
 ///
 /// The stack is out of reach, or an allocation failed.
-pub fn shrink<T: Trial>(alloc: Global, trial: &mut T, round: Round) -> Result<Round, Lost> {
+pub fn shrink<T: Trial>(alloc: Global, trial: &mut T, round: Round) -> Result<Round, Lost>
+    ensures { IfOk result (λ least. Part least.stimuli.items round.stimuli.items) }
+{
     let mut least = without_wait(alloc, trial, round)?;
     let mut size = least.stimuli.len().div_ceil(2).max(1);
     for _pass in 0..MOST_PASSES {
@@ -38,7 +43,9 @@ pub fn shrink<T: Trial>(alloc: Global, trial: &mut T, round: Round) -> Result<Ro
 }
 
 /// The round without its last wait, if it fails so too.
-fn without_wait<T: Trial>(alloc: Global, trial: &mut T, round: Round) -> Result<Round, Lost> {
+fn without_wait<T: Trial>(alloc: Global, trial: &mut T, round: Round) -> Result<Round, Lost>
+    ensures { IfOk result (λ least. Part least.stimuli.items round.stimuli.items) }
+{
     match smaller(alloc, &round, 0, 0, false)? {
         shorter if trial.fails(&shorter)? => Ok(shorter),
         _ => Ok(round),
@@ -51,7 +58,9 @@ fn pass_over<T: Trial>(
     trial: &mut T,
     round: Round,
     size: usize,
-) -> Result<Round, Lost> {
+) -> Result<Round, Lost>
+    ensures { IfOk result (λ least. Part least.stimuli.items round.stimuli.items) }
+{
     let mut least = round;
     let mut end = least.stimuli.len();
     for _turn in 0..least.stimuli.len() {
@@ -74,7 +83,9 @@ fn smaller(
     place: usize,
     count: usize,
     waits: bool,
-) -> Result<Round, Lost> {
+) -> Result<Round, Lost>
+    ensures { IfOk result (λ shorter. Part shorter.stimuli.items round.now.stimuli.items) }
+{
     match round.without(alloc, place, count, waits) {
         Ok(shorter) => Ok(shorter),
         Err(_) => Err(Lost::Memory),
