@@ -4,7 +4,8 @@
 //! line with the wrong word and what is expected in its place ([`StackFault`]). [`fits`] decides
 //! whether a pattern fits the name of a case. [`push_line`] appends the line of a result, a
 //! [`CaseReport`]; a [`Tally`] counts verdicts, and chooses the exit status. [`lines_between`] and
-//! [`push_wanted`] find lines of a suite by their numbers.
+//! [`push_wanted`] find lines of a suite by their numbers. [`push_answer_script`] makes a script of
+//! `lapd answer` of a dialogue.
 //!
 //! specs/, in order: `Reading` says how a word is read; `Settings` and `StackFiles` define stack
 //! files, `Patterns` patterns, `Tallies` the counts and the exit status, and `Results`, `Found`,
@@ -14,6 +15,7 @@
 //! [`DrawnRun`] draws stimuli in place of a suite. `Plans` says how many in which round.
 #![tactic(auto)]
 
+mod answer_script;
 mod drawn;
 mod fault;
 mod found;
@@ -32,6 +34,7 @@ mod stack_file;
 mod suite_text;
 mod tally;
 
+pub use answer_script::push_answer_script;
 pub use drawn::{DrawCounts, DrawPlan, DrawnRun};
 pub use fault::{Fault, StackFault, Wanted};
 pub use found::push_found;

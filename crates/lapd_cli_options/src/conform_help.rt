@@ -44,7 +44,8 @@ anew with each connection";
 
 pub const REPORT: &str = "\
 Writes the frames of each case that fails into
-this folder, as a capture and as text";
+this folder, as a capture, as text, and as a
+script of `lapd answer`";
 
 pub const JUNIT: &str = "Writes the results to this file, as JUnit XML";
 
@@ -119,8 +120,9 @@ out as long as it fails, and the rest is printed as a case. The output is a suit
   # 120 stimuli of seed SEED in 4 rounds: 3 pass, 1 fail, 0 not judged
 The same seed, number of stimuli, stack file and --upper draw the same stimuli.
 
-With --report DIR, a case that fails is written to DIR/NAME.pcap, a capture, and to DIR/NAME.txt,
-its frames as lines that `lapd decode` reads. With --json a result has the members case, clause,
+With --report DIR, a case that fails is written to DIR/NAME.pcap, a capture, to DIR/NAME.txt, its
+frames as lines that `lapd decode` reads, and if it tests a link to DIR/NAME.answer, a script of
+`lapd answer`, which prints what our link does instead; its first line has the command. With --json a result has the members case, clause,
 needs, reason, seen, title, verdict and wanted, unless they are empty, and the counts are not
 printed. With --draw the result has also the member suite, and the counts are an object with the
 members failed, rounds, seed, stimuli and unjudged. In the file of --junit an inconclusive case is skipped, and so is one that does not

@@ -1,10 +1,11 @@
-//! The files of a case that failed: a capture, and its frames as lines for `decode`.
+//! The files of a case that failed: a capture, its frames as lines for `decode`, and a script of
+//! `answer`.
 
 ghost use Rattle.std.specs.Prelude.{◌≤◌, length};
 
 use crate::refused::{print_memory, print_no_file};
 use lapd_capture::{FILE_HEADER, MOST_FRAME, record_of};
-use lapd_cli_conform::{CaseReport, Happening, Played, What, push_line};
+use lapd_cli_conform::{CaseReport, Happening, Played, Stack, What, push_answer_script, push_line};
 use lapd_conform::Ask;
 use lapd_frame::Side;
 use std::alloc::{AllocError, Global};
@@ -16,8 +17,7 @@ use std::time::{SystemTime, UNIX_EPOCH};
 #[derive(Drop)]
 pub(crate) struct CaseFiles<'a> {
     rt: &'a HostRuntime,
-    /// The side of the stack.
-    side: Side,
+    stack: &'a Stack,
     folder: &'a str,
     /// The time of moment 0, in milliseconds since 1970.
     start: u64,
@@ -29,11 +29,15 @@ impl<'a> CaseFiles<'a> {
     /// # Errors
     ///
     /// The exit status if there is no such folder, which is reported.
-    pub fn new(rt: &'a HostRuntime, side: Side, folder: &'a str) -> Result<CaseFiles<'a>, u8> {
+    pub fn new(
+        rt: &'a HostRuntime,
+        stack: &'a Stack,
+        folder: &'a str,
+    ) -> Result<CaseFiles<'a>, u8> {
         match made(rt, folder) {
             Ok(()) => Ok(CaseFiles {
                 rt,
-                side,
+                stack,
                 folder,
                 start: milliseconds_now(rt),
             }),
@@ -49,14 +53,30 @@ impl<'a> CaseFiles<'a> {
     pub fn write(&self, report: &CaseReport<'_>, source: &[u8], played: &Played) -> Result<(), u8> {
         let alloc = self.rt.alloc();
         let happenings = played.happenings.as_slice();
-        let Ok(capture) = capture_of(alloc, self.side, self.start, happenings) else {
+        let side = self.stack.side;
+        let Ok(capture) = capture_of(alloc, side, self.start, happenings) else {
             return Err(print_memory(self.rt));
         };
         self.write_file(report.name, "pcap", capture.as_slice())?;
-        let Ok(text) = frames_of(alloc, self.side, report, source, played) else {
+        let Ok(text) = frames_of(alloc, side, report, source, played) else {
             return Err(print_memory(self.rt));
         };
-        self.write_file(report.name, "txt", text.as_slice())
+        self.write_file(report.name, "txt", text.as_slice())?;
+        if tests_link(report.name) {
+            self.write_script(report.name, happenings)
+        } else {
+            Ok(())
+        }
+    }
+
+    /// Writes a script of `lapd answer`, which prints what our link does in the place of the stack.
+    fn write_script(&self, name: &[u8], happenings: &[Happening]) -> Result<(), u8> {
+        let mut text = Vec::new(self.rt.alloc());
+        let file = str::from_utf8(name).unwrap_or("case");
+        match push_answer_script(self.rt.alloc(), &mut text, self.stack, file, happenings) {
+            Ok(()) => self.write_file(name, "answer", text.as_slice()),
+            Err(_) => Err(print_memory(self.rt)),
+        }
     }
 
     /// Writes the file of this case with this ending.
@@ -71,6 +91,11 @@ impl<'a> CaseFiles<'a> {
             Err(error) => Err(print_no_file(self.rt, path.as_str(), &error)),
         }
     }
+}
+
+/// Whether the case with this name tests a link.
+fn tests_link(name: &[u8]) -> bool {
+    matches!(name, [b'4'..=b'8', ..])
 }
 
 /// Makes a folder, unless it exists.

@@ -5,12 +5,11 @@ use crate::case_files::CaseFiles;
 use crate::refused::{print_memory, print_no_file, print_no_output};
 use crate::upper_tester::passed_since;
 use lapd_cli_conform::{
-    CaseReport, DrawCounts, Grade, Halt, Played, Reporter, Tally, junit_file, push_found,
+    CaseReport, DrawCounts, Grade, Halt, Played, Reporter, Stack, Tally, junit_file, push_found,
     push_line, push_object, push_test_case,
 };
 use lapd_cli_console::Escaped;
 use lapd_cli_outputs::PictureFile;
-use lapd_frame::Side;
 use std::fmt::Display;
 use std::io::{self, ErrorKind, IsTerminal, Write};
 use std::time::Instant;
@@ -50,19 +49,19 @@ pub(crate) struct Printed<'a> {
 }
 
 impl<'a> Printed<'a> {
-    /// Results of a stack of this side. Makes the folder of reports, if it does not exist.
+    /// Results of this stack. Makes the folder of reports, if it does not exist.
     ///
     /// # Errors
     ///
     /// The exit status if there is no such folder, which is reported.
     pub fn new(
         rt: &'a HostRuntime,
-        side: Side,
+        stack: &'a Stack,
         style: ResultStyle<'a>,
         is_drawn: bool,
     ) -> Result<Printed<'a>, u8> {
         let files = match style.report {
-            Some(folder) => Some(CaseFiles::new(rt, side, folder)?),
+            Some(folder) => Some(CaseFiles::new(rt, stack, folder)?),
             None => None,
         };
         Ok(Printed {

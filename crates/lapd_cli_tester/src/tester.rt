@@ -16,6 +16,7 @@ use lapd_cli_conform::{
 use lapd_cli_io::connection;
 use lapd_cli_outputs::Notes;
 use lapd_frame::Side;
+use std::random::RandomSource;
 use std::{fs, io};
 
 /// What is played against the stack.
@@ -135,7 +136,7 @@ fn test_by_suite(
     }
     let known = KnownCases { lists: cases.known };
     let notes = Notes::new(rt);
-    let (mut printed, mut station) = match begun(rt, &notes, setup) {
+    let (mut printed, mut station) = match begun(rt, &notes, setup, stack) {
         Ok(begun) => begun,
         Err(status) => return status,
     };
@@ -156,7 +157,7 @@ fn test_by_suite(
 /// Plays drawn stimuli.
 fn test_by_draws(rt: &HostRuntime, setup: &TesterSetup<'_>, stack: &Stack, plan: DrawPlan) -> u8 {
     let notes = Notes::new(rt);
-    let (mut printed, mut station) = match begun(rt, &notes, setup) {
+    let (mut printed, mut station) = match begun(rt, &notes, setup, stack) {
         Ok(begun) => begun,
         Err(status) => return status,
     };
@@ -184,9 +185,10 @@ fn begun<'a>(
     rt: &'a HostRuntime,
     notes: &Notes<'_>,
     setup: &TesterSetup<'a>,
+    stack: &'a Stack,
 ) -> Result<(Printed<'a>, TcpStation<'a>), u8> {
     let is_drawn = matches!(setup.play, Play::Drawn(_, _));
-    let printed = Printed::new(rt, setup.side, setup.results, is_drawn)?;
+    let printed = Printed::new(rt, stack, setup.results, is_drawn)?;
     let station = station_of(rt, notes, setup)?;
     Ok((printed, station))
 }
