@@ -7,8 +7,8 @@ use crate::results::{CaseReport, Grade};
 use crate::run::{Halt, Reporter, grade_of};
 use crate::seen::{reason_of, seen_frame};
 use crate::tally::Tally;
-use lapd_conform::{Lost, Outcome, Played, Session, Stack, Station, Verdict};
-use lapd_conform_draw::{Round, Trial, draw_round, play_round, shrink};
+use lapd_conform::{Outcome, Played, Session, Stack, Station, Verdict};
+use lapd_conform_draw::{Progress, Round, Tries, draw_round, play_round, shrink};
 use std::alloc::{AllocError, Global};
 use std::fmt;
 
@@ -124,7 +124,7 @@ impl<'a> DrawnRun<'a> {
     /// # Errors
     ///
     /// The stack is out of reach, a result could not be written, or an allocation failed.
-    pub fn play<S: Station, R: Reporter>(
+    pub fn play<S: Station, R: Reporter + Progress>(
         &mut self,
         station: &mut S,
         results: &mut R,
@@ -138,7 +138,7 @@ impl<'a> DrawnRun<'a> {
     }
 
     /// Plays the next round, and reports its result.
-    fn play_next<S: Station, R: Reporter>(
+    fn play_next<S: Station, R: Reporter + Progress>(
         &mut self,
         station: &mut S,
         results: &mut R,
@@ -161,7 +161,7 @@ impl<'a> DrawnRun<'a> {
         Ok(grade)
     }
 
-    fn play_round<S: Station, R: Reporter>(
+    fn play_round<S: Station, R: Reporter + Progress>(
         &mut self,
         station: &mut S,
         results: &mut R,
@@ -185,25 +185,17 @@ impl<'a> DrawnRun<'a> {
     }
 
     /// Shrinks a round that failed, and reports the least one.
-    fn shrink<S: Station, R: Reporter>(
+    fn shrink<S: Station, R: Reporter + Progress>(
         &mut self,
         station: &mut S,
         results: &mut R,
         round: Round,
         played: Played,
     ) -> Result<Grade, Halt> {
-        let mut tries = Tries {
-            alloc: self.alloc,
-            station,
-            results,
-            stack: self.stack,
-            session: &mut self.session,
-            played,
-            number: 0,
-        };
-        let least = shrink(self.alloc, &mut tries, round)?;
-        let played = tries.played;
-        self.report(results, &least, &played)
+        let mut tries = Tries::new(*self.stack, self.session, played);
+        let least = shrink(self.alloc, station, results, &mut tries, round)?;
+        self.session = tries.session();
+        self.report(results, &least, tries.played())
     }
 
     fn report<R: Reporter>(
@@ -229,43 +221,5 @@ impl<'a> DrawnRun<'a> {
         };
         results.end(&report, text.as_slice(), Some(played))?;
         Ok(grade)
-    }
-}
-
-/// Plays rounds that are shrunk.
-#[derive(Drop)]
-struct Tries<'r, S: Station, R: Reporter> {
-    alloc: Global,
-    station: &'r mut S,
-    results: &'r mut R,
-    stack: &'r Stack,
-    session: &'r mut Session,
-    /// The result of the last round that failed.
-    played: Played,
-    /// The number of rounds that were played.
-    number: u64,
-}
-
-impl<S: Station, R: Reporter> Trial for Tries<'_, S, R> {
-    fn fails(&mut self, round: &Round) -> Result<bool, Lost> {
-        self.number = self.number.saturating_add(1);
-        self.results.shrink(self.number, round.stimuli.len());
-        let Ok(text) = round.text(self.alloc, self.stack) else {
-            return Err(Lost::Memory);
-        };
-        let outcome = play_round(
-            self.alloc,
-            self.station,
-            self.stack,
-            self.session,
-            text.as_slice(),
-        )?;
-        match outcome {
-            Outcome::Played(played) if played.verdict == Verdict::Fail => {
-                self.played = played;
-                Ok(true)
-            }
-            _ => Ok(false),
-        }
     }
 }

@@ -42,6 +42,7 @@ pub use json::push_object;
 pub use junit::{junit_file, push_test_case};
 pub use known::KnownCases;
 pub use lapd_conform::{Case, Happening, Lost, Played, Stack, Station, What};
+pub use lapd_conform_draw::Progress;
 pub use pattern::fits;
 pub use reasons::{doubt_words, lack_words, reason_words};
 pub use results::{CaseReport, Grade, push_line};

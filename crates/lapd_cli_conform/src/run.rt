@@ -42,9 +42,6 @@ pub trait Reporter {
     /// A case begins: its number among the cases that are played, and their number.
     fn begin(&mut self, number: u64, count: u64, name: &str, title: &[u8]);
 
-    /// A round of drawn stimuli is shrunk: the number of the try, and how many stimuli it has.
-    fn shrink(&mut self, number: u64, stimuli: usize);
-
     /// A case has ended, which has this text in its suite. Without `played` it does not apply.
     ///
     /// # Errors

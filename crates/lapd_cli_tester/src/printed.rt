@@ -5,8 +5,8 @@ use crate::case_files::CaseFiles;
 use crate::refused::{print_memory, print_no_file, print_no_output};
 use crate::upper_tester::passed_since;
 use lapd_cli_conform::{
-    CaseReport, DrawCounts, Grade, Halt, Played, Reporter, Stack, Tally, junit_file, push_found,
-    push_line, push_object, push_test_case,
+    CaseReport, DrawCounts, Grade, Halt, Played, Progress, Reporter, Stack, Tally, junit_file,
+    push_found, push_line, push_object, push_test_case,
 };
 use lapd_cli_console::Escaped;
 use lapd_cli_outputs::PictureFile;
@@ -223,14 +223,6 @@ impl Reporter for Printed<'_> {
         };
     }
 
-    fn shrink(&mut self, number: u64, stimuli: usize) {
-        let _ = if self.is_terminal {
-            eprint!(self.rt; "{ERASED}shrinking: try {number} with {stimuli} stimuli")
-        } else {
-            eprintln!(self.rt; "shrinking: try {number} with {stimuli} stimuli")
-        };
-    }
-
     fn end(
         &mut self,
         report: &CaseReport<'_>,
@@ -243,5 +235,15 @@ impl Reporter for Printed<'_> {
             (Grade::Fail, Some(played)) => self.write_files(report, source, played),
             _ => Ok(()),
         }
+    }
+}
+
+impl Progress for Printed<'_> {
+    fn shrink(&mut self, number: u64, stimuli: usize) {
+        let _ = if self.is_terminal {
+            eprint!(self.rt; "{ERASED}shrinking: try {number} with {stimuli} stimuli")
+        } else {
+            eprintln!(self.rt; "shrinking: try {number} with {stimuli} stimuli")
+        };
     }
 }

@@ -105,6 +105,30 @@ expect R UA F=1
 expect C SABME P=1
 within 200 %T200
 
+case 5-V-12 an establish request while the data link establishes: no other SABME
+clause 5.5.1.2, 5.7.2
+needs establish
+state 5-line
+do establish
+quiet 300 ms
+send R UA F=1
+quiet 140 %T200
+send C RR N(R)=0 P=1
+expect R RR N(R)=0 F=1
+
+case 5-V-13 a message that was out is not sent again after the link is established again
+clause 5.5.1.2, 5.7.2
+needs give
+state 7
+do give
+expect C I N(S)=0 N(R)=0 P=0
+send R DM F=0
+expect C SABME P=1
+send R UA F=1
+quiet 150 %T200
+do give
+expect C I N(S)=0 N(R)=0 P=0
+
 case 5-O-01 UA with F=0 is ignored
 clause 5.8.7 Table 9
 state 5

@@ -206,4 +206,12 @@ send C I N(S)=127 N(R)=0 P=1
 expect R REJ N(R)=0 F=1
 send C I N(S)=0 N(R)=0 P=0
 expect ack 1
+
+case 7-O-24 REJ with F=1 that nobody asked for
+clause 5.8.7 Table 9
+state 7
+send R REJ N(R)=0 F=1
+quiet 250 ms
+send C RR N(R)=0 P=1
+expect R RR N(R)=0 F=1
 ";

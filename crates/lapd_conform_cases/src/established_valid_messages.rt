@@ -188,4 +188,32 @@ send R RR N(R)=0 F=0
 quiet 100 ms
 send R RR N(R)=1 F=0
 quiet 140 %T200
+
+case 7-V-40 N(R) of an I frame of a busy end acknowledges, and it is polled
+clause 5.6.3.2, 5.6.5
+needs give
+state 7
+do give
+expect C I N(S)=0 N(R)=0 P=0
+send R RNR N(R)=0 F=0
+quiet 100 ms
+send C I N(S)=0 N(R)=1 P=0
+expect ack 1
+expect C RR N(R)=1 P=1
+within 200 %T200
+send R RR N(R)=1 F=1
+quiet 140 %T200
+
+case 7-V-41 N(R) of an I frame acknowledges the first of two messages
+clause 5.6.3.2
+needs give
+needs k>1
+state 7
+do give 2
+expect C I N(S)=0 N(R)=0 P=0
+expect C I N(S)=1 N(R)=0 P=0
+send C I N(S)=0 N(R)=1 P=0
+expect ack 1
+send R RR N(R)=2 F=0
+quiet 140 %T200
 ";

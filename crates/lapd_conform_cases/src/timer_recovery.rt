@@ -232,6 +232,43 @@ expect R RR N(R)=0 F=1
 expect C RR N(R)=0 P=1
 within 200 %T200
 
+case 8-V-25 the own receiver becomes busy and ready again in timer recovery
+clause 5.6.6, 5.6.7
+needs busy
+state 8
+do busy
+expect * RNR N(R)=0 F=0
+send C I N(S)=0 N(R)=0 P=0
+expect * RNR N(R)=0 F=0
+or nothing
+within 100 ms
+send C I N(S)=0 N(R)=0 P=1
+expect R RNR N(R)=0 F=1
+do ready
+expect ack 0
+send C I N(S)=0 N(R)=0 P=1
+expect R RR N(R)=1 F=1
+
+case 8-V-26 SABME while a message is out: it is not sent again
+clause 5.5.1.2, 5.7.2
+needs give
+state 8-out
+send C SABME P=1
+expect R UA F=1
+quiet 150 %T200
+do give
+expect C I N(S)=0 N(R)=0 P=0
+
+case 8-V-27 RNR with F=0 acknowledges, and the state stays
+clause 5.6.5, 5.8.3
+needs give
+state 8-out
+send R RNR N(R)=1 F=0
+expect C RR N(R)=0 P=1
+within 200 %T200
+send R RR N(R)=1 F=1
+quiet 140 %T200
+
 case 8-O-01 DM with F=1: establish again
 clause 5.7.1, 5.8.7 Table 9
 state 8
@@ -296,6 +333,33 @@ clause 5.8.1
 state 8
 send C I N(S)=5 N(R)=0 P=1
 expect R REJ N(R)=0 F=1
+
+case 8-O-11 UA with F=0 is ignored on the line
+clause 5.8.7 Table 9
+state 8
+send R UA F=0
+quiet 200 ms
+expect C RR N(R)=0 P=1
+within 200 %T200
+
+case 8-O-12 of I frames out of sequence the first is answered by REJ
+clause 5.8.1
+state 8
+send C I N(S)=2 N(R)=0 P=0
+expect R REJ N(R)=0 F=0
+send C I N(S)=3 N(R)=0 P=0
+quiet 100 ms
+send C I N(S)=4 N(R)=0 P=1
+expect R RR N(R)=0 F=1
+or R REJ N(R)=0 F=1
+send C I N(S)=0 N(R)=0 P=0
+expect ack 1
+
+case 8-O-13 N(R) of RNR that was never sent: establish again
+clause 5.8.2
+state 8
+send R RNR N(R)=7 F=0
+expect C SABME P=1
 
 case 8-I-01 no such U frame: frame rejection
 clause 5.8.5

@@ -22,5 +22,5 @@ pub use lapd_conform::{Lost, Outcome, Preamble, Request, Session, Stack, Station
 pub use lapd_link::Timer;
 pub use playing::play_round;
 pub use round::Round;
-pub use shrinking::{Trial, shrink};
+pub use shrinking::{Progress, Tries, shrink};
 pub use stimulus::{DrawnFrame, Stimulus};

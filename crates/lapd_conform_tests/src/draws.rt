@@ -6,7 +6,7 @@ use lapd_cli_conform::{
     CaseReport, DrawCounts, DrawPlan, DrawnRun, Grade, Halt, Reporter, push_found,
 };
 use lapd_conform::{Lost, Outcome, Played, Session, Stack, Verdict};
-use lapd_conform_draw::{Round, Trial, draw_round, play_round, shrink};
+use lapd_conform_draw::{Progress, Round, draw_round, play_round};
 use lapd_sides::Side;
 use lapd_test_text::{Text, split};
 use std::alloc::Global;
@@ -81,12 +81,6 @@ impl Table {
     }
 }
 
-impl Trial for Table {
-    fn fails(&mut self, round: &Round) -> Result<bool, Lost> {
-        Ok(self.verdict(round)? == Verdict::Fail)
-    }
-}
-
 /// Plays so many rounds against a right side. None fails, and each is judged.
 fn no_round_fails(alloc: Global, own: Own, seed: u64, count: u64) -> Result<(), Fail> {
     let Ok(mut table) = Table::new(alloc, own) else {
@@ -97,7 +91,7 @@ fn no_round_fails(alloc: Global, own: Own, seed: u64, count: u64) -> Result<(), 
     match played {
         Ok(None) if judged == count => Ok(()),
         Ok(Some(round)) => {
-            let text = shrunk_text(alloc, &mut table, round);
+            let text = text_of(alloc, &table, &round);
             let text = text.as_str();
             Err(Fail::new(format_args!("after {judged} rounds:\n{text}")))
         }
@@ -108,13 +102,11 @@ fn no_round_fails(alloc: Global, own: Own, seed: u64, count: u64) -> Result<(), 
     }
 }
 
-/// The text of the least round that fails as this one.
-fn shrunk_text(alloc: Global, table: &mut Table, round: Round) -> Text {
+/// The text of this round.
+fn text_of(alloc: Global, table: &Table, round: &Round) -> Text {
     let mut text = Text::new();
-    if let Ok(least) = shrink(alloc, table, round) {
-        if let Ok(made) = least.text(alloc, &table.stack) {
-            text.put_octets(made.as_slice());
-        }
+    if let Ok(made) = round.text(alloc, &table.stack) {
+        text.put_octets(made.as_slice());
     }
     text
 }
@@ -205,10 +197,6 @@ impl Reporter for Recorder {
         self.begun = number;
     }
 
-    fn shrink(&mut self, number: u64, _stimuli: usize) {
-        self.tries = number;
-    }
-
     fn end(
         &mut self,
         report: &CaseReport<'_>,
@@ -219,6 +207,12 @@ impl Reporter for Recorder {
             push_found(&mut self.text, report)?;
         }
         Ok(())
+    }
+}
+
+impl Progress for Recorder {
+    fn shrink(&mut self, number: u64, _stimuli: usize) {
+        self.tries = number;
     }
 }
 

@@ -44,8 +44,8 @@ const ROWS: &str = "\
 
 /// Judges each row.
 #[derive(Drop)]
-struct Bench {
-    alloc: Global,
+pub(crate) struct Bench {
+    pub alloc: Global,
 }
 
 impl Bench {
@@ -69,14 +69,22 @@ impl Bench {
         Ok(None)
     }
 
-    fn judge_row(&self, row: &str, made: &mut Text) -> Result<(), AllocError> {
+    /// The happenings of a dialogue without its end.
+    pub fn happenings(&self, dialogue: &str) -> Result<Vec<Happening>, AllocError> {
         let mut happenings = Vec::new(self.alloc);
+        for word in dialogue.split(' ') {
+            if let Some(happening) = self.read(word)? {
+                happenings.push(happening)?;
+            }
+        }
+        Ok(happenings)
+    }
+
+    fn judge_row(&self, row: &str, made: &mut Text) -> Result<(), AllocError> {
+        let happenings = self.happenings(row)?;
         let mut until = 0;
         for word in row.split(' ') {
-            match self.read(word)? {
-                Some(happening) => happenings.push(happening)?,
-                None => until = moment(split(word, ".").0),
-            }
+            until = moment(split(word, ".").0);
         }
         let judgement = judge(self.alloc, &setup(), happenings.as_slice(), until)?;
         made.made("", judgement);

@@ -3,6 +3,10 @@
 #![tactic(auto)]
 
 #[cfg(test)]
+mod answers;
+#[cfg(test)]
+mod asked_rows;
+#[cfg(test)]
 mod draws;
 #[cfg(test)]
 mod grammar;

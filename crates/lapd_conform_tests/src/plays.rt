@@ -1,5 +1,6 @@
 //! The built-in suite, played against our own sides in simulated time.
 
+use crate::asked_rows::AskedRows;
 use crate::station::{Own, OwnStation, Planted};
 use lapd_conform::{
     Case, Lost, NumberedLine, Outcome, Played, Request, Requests, Session, Stack, Verdict,
@@ -58,6 +59,8 @@ struct Tally {
     not_applicable: u32,
     failed: Text,
     doubted: Text,
+    /// The rows of the state table that the stack was asked for.
+    rows: AskedRows,
 }
 
 impl Tally {
@@ -69,6 +72,7 @@ impl Tally {
             not_applicable: 0,
             failed: Text::new(),
             doubted: Text::new(),
+            rows: AskedRows::new(),
         }
     }
 
@@ -149,6 +153,7 @@ impl Tally {
         for part in PARTS {
             self.play_text(&mut station, &stack, &mut session, part, name)?;
         }
+        self.rows.add(&station.rows);
         Ok(())
     }
 
@@ -185,8 +190,9 @@ pub(crate) fn right(side: Side, is_primary: bool, delay: u32) -> Own {
 }
 
 /// Plays the whole suite against both sides, with fixed and with automatic TEIs. No case fails, and
-/// at most this many are inconclusive.
-fn no_case_fails(alloc: Global, is_kept: bool, delay: u32, most: u32) -> Result<(), Fail> {
+/// at most this many are inconclusive. Returns the rows of the state table that were asked for.
+fn no_case_fails(alloc: Global, is_kept: bool, delay: u32, most: u32) -> Result<AskedRows, Fail> {
+    let mut rows = AskedRows::new();
     for (side, is_primary) in [
         (Side::Network, true),
         (Side::User, true),
@@ -199,6 +205,7 @@ fn no_case_fails(alloc: Global, is_kept: bool, delay: u32, most: u32) -> Result<
             ..right(side, is_primary, delay)
         };
         let played = tally.play_suite(own, "");
+        rows.add(&tally.rows);
         if played.is_err()
             || !tally.failed.is("")
             || tally.inconclusive > most
@@ -212,23 +219,35 @@ fn no_case_fails(alloc: Global, is_kept: bool, delay: u32, most: u32) -> Result<
             )));
         }
     }
-    Ok(())
+    Ok(rows)
 }
 
+/// The suite asks our own sides for each row of the state table.
 #[test]
 fn own_sides_pass(rt: HostRuntime) -> Result<(), Fail> {
-    no_case_fails(rt.alloc(), false, 0, 0)
+    let rows = no_case_fails(rt.alloc(), false, 0, 0)?;
+    let missing = rows.missing();
+    if missing.is(NOT_ASKED) {
+        return Ok(());
+    }
+    let missing = missing.as_str();
+    Err(Fail::new(format_args!("rows without a case:\n{missing}")))
 }
+
+/// Rows of the state table that no case of the suite asks for.
+const NOT_ASKED: &str = "";
 
 /// Of a network side that is not started anew, TEI management is not judged: 17 cases.
 #[test]
 fn own_sides_pass_that_are_kept(rt: HostRuntime) -> Result<(), Fail> {
-    no_case_fails(rt.alloc(), true, 0, 17)
+    no_case_fails(rt.alloc(), true, 0, 17)?;
+    Ok(())
 }
 
 #[test]
 fn no_case_fails_over_slow_lines(rt: HostRuntime) -> Result<(), Fail> {
-    no_case_fails(rt.alloc(), false, 350, 60)
+    no_case_fails(rt.alloc(), false, 350, 60)?;
+    Ok(())
 }
 
 /// Wrong stacks: what is wrong, the planted fault, and a case that finds it. Octets are the third

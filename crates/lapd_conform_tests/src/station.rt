@@ -3,7 +3,9 @@
 
 ghost use Rattle.std.specs.Prelude.{◌≡◌};
 
+use crate::asked_rows::AskedRows;
 use lapd_conform::{Lost, Request as Asked, Station};
+use lapd_link::Timer;
 use lapd_sides::{
     Acts, Config, Durations, EitherSide, LinkId, NetSide, Params, Request, Sapi, Side, Tei,
     UserSide,
@@ -78,6 +80,9 @@ pub(crate) struct OwnStation {
     from_stack: Vec<Transit>,
     last: [u64; 2],
     draws: Draws,
+    /// The link of the last frame.
+    id: Option<LinkId>,
+    pub rows: AskedRows,
 }
 
 fn params(own: Own) -> Params {
@@ -149,6 +154,8 @@ impl OwnStation {
             from_stack: Vec::new(alloc),
             last: [0, 0],
             draws: Draws::new(921),
+            id: None,
+            rows: AskedRows::new(),
         })
     }
 
@@ -203,6 +210,7 @@ impl OwnStation {
             self.take(transit.octets.as_slice())?;
             return Ok(true);
         }
+        self.note_expiry();
         if self.side.tick(self.now, &mut self.acts) {
             self.forward()?;
             return Ok(true);
@@ -214,11 +222,49 @@ impl OwnStation {
         if self.own.planted == Planted::Deaf(third_of(octets)) {
             return Ok(());
         }
+        self.note_octets(octets);
         let taken = self.side.take(octets, self.now, &mut self.acts);
         if taken.is_ok() {
             self.forward()?;
         }
         Ok(())
+    }
+
+    /// Notes the row of octets of the tester.
+    fn note_octets(&mut self, octets: &[u8]) {
+        match lapd_frame::read(octets, self.own.side.other()) {
+            Ok(frame) => {
+                let address = frame.address();
+                let id = LinkId {
+                    tei: address.tei,
+                    sapi: address.sapi,
+                };
+                if let Some(link) = self.side.table().link(id) {
+                    self.id = Some(id);
+                    self.rows.note_frame(link, &frame);
+                }
+            }
+            Err(fault) => {
+                if let Some(id) = self.id
+                    && fault.kind.is_for_link()
+                    && let Some(link) = self.side.table().link(id)
+                {
+                    self.rows.note_fault(link);
+                }
+            }
+        }
+    }
+
+    /// Notes the row of a timer of the link that is due.
+    fn note_expiry(&mut self) {
+        if let Some(id) = self.id
+            && let Some(timers) = self.side.timers(Some(id))
+            && let Some(timer) = timers.due(self.now)
+            && matches!(timer, Timer::T200 | Timer::T203)
+            && let Some(link) = self.side.table().link(id)
+        {
+            self.rows.note_expiry(link, timer);
+        }
     }
 
     /// Runs all steps that are due now.
@@ -269,6 +315,9 @@ impl OwnStation {
             sapi: Sapi::Call,
         };
         let request = requested(self.alloc, asked, id)?;
+        if let Some(link) = self.side.table().link(id) {
+            self.rows.note_request(link, &request);
+        }
         let done = self.side.request(request, self.now, &mut self.acts);
         if done.is_ok() {
             self.forward()?;
