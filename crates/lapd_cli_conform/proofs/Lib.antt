@@ -1,3 +1,4 @@
+mod Appended
 mod Joined
 mod Rows
 mod StackLines

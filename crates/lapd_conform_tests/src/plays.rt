@@ -148,6 +148,7 @@ impl Tally {
         let Ok(mut station) = OwnStation::new(self.alloc, own) else {
             return Err(Lost::Memory);
         };
+        station.is_noting = name.is_empty() && own.delay == 0 && !own.is_kept;
         let stack = stack(own);
         let mut session = Session::new();
         for part in PARTS {

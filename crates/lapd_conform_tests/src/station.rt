@@ -82,6 +82,8 @@ pub(crate) struct OwnStation {
     draws: Draws,
     /// The link of the last frame.
     id: Option<LinkId>,
+    /// Whether the rows of the state table are noted that the stack is asked for.
+    pub is_noting: bool,
     pub rows: AskedRows,
 }
 
@@ -155,6 +157,7 @@ impl OwnStation {
             last: [0, 0],
             draws: Draws::new(921),
             id: None,
+            is_noting: false,
             rows: AskedRows::new(),
         })
     }
@@ -210,7 +213,9 @@ impl OwnStation {
             self.take(transit.octets.as_slice())?;
             return Ok(true);
         }
-        self.note_expiry();
+        if self.is_noting {
+            self.note_expiry();
+        }
         if self.side.tick(self.now, &mut self.acts) {
             self.forward()?;
             return Ok(true);
@@ -222,7 +227,9 @@ impl OwnStation {
         if self.own.planted == Planted::Deaf(third_of(octets)) {
             return Ok(());
         }
-        self.note_octets(octets);
+        if self.is_noting {
+            self.note_octets(octets);
+        }
         let taken = self.side.take(octets, self.now, &mut self.acts);
         if taken.is_ok() {
             self.forward()?;
@@ -315,7 +322,9 @@ impl OwnStation {
             sapi: Sapi::Call,
         };
         let request = requested(self.alloc, asked, id)?;
-        if let Some(link) = self.side.table().link(id) {
+        if self.is_noting
+            && let Some(link) = self.side.table().link(id)
+        {
             self.rows.note_request(link, &request);
         }
         let done = self.side.request(request, self.now, &mut self.acts);
