@@ -110,8 +110,8 @@ Without --upper, cases that need a request do not apply.
 TEI management of a network side is judged only if the stack begins anew with each case: with
 --anew the tester closes the connection after a case, and makes the next one within 10 seconds.
 
-With --draw STIMULI, frames, requests and pauses are drawn near the numbers of the link, in rounds of
-30, and judged as cases are; without --upper no requests are drawn. A round that passes is not
+With --draw STIMULI, frames, requests and pauses are drawn near the numbers of the link, in rounds
+of 30, and judged as cases are; without --upper no requests are drawn. A round that passes is not
 printed. The run ends at the first round that fails, also when it is played again. Stimuli are left
 out as long as it fails, and the rest is printed as a case. The output is a suite for --suite:
   # fail NAME drawn by seed SEED in round NUMBER; REASON; clause CLAUSE; seen FRAME
@@ -122,11 +122,13 @@ The same seed, number of stimuli, stack file and --upper draw the same stimuli.
 
 With --report DIR, a case that fails is written to DIR/NAME.pcap, a capture, to DIR/NAME.txt, its
 frames as lines that `lapd decode` reads, and if it tests a link to DIR/NAME.answer, a script of
-`lapd answer`, which prints what our link does instead; its first line has the command. With --json a result has the members case, clause,
-needs, reason, seen, title, verdict and wanted, unless they are empty, and the counts are not
-printed. With --draw the result has also the member suite, and the counts are an object with the
-members failed, rounds, seed, stimuli and unjudged. In the file of --junit an inconclusive case is skipped, and so is one that does not
-apply or is known to fail.
+`lapd answer`, which prints what our link does instead; its first line has the command.
+
+With --json a result has the members case, clause, needs, reason, seen, title, verdict and wanted,
+unless they are empty, and the counts are not printed. With --draw the result has also the member
+suite, and the counts are an object with the members failed, rounds, seed, stimuli and unjudged. In
+the file of --junit an inconclusive case is skipped, and so is one that does not apply or is known
+to fail.
 
 Exit status:
   0  no case failed, or --known has each that did
