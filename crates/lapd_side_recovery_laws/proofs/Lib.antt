@@ -1,0 +1,13 @@
+pub mod Deadlines
+pub mod Fates
+pub mod FatesOfEvents
+pub mod Proceeding
+pub mod Waiting
+pub mod Counting
+pub mod Arrives
+pub mod Along
+pub mod Parameters
+pub mod Recovers
+pub mod OtherRequests
+pub mod QuietTests
+pub mod RunsComputed
