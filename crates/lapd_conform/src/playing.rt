@@ -1,5 +1,8 @@
 //! Playing a case, and the verdict on it.
 
+ghost use Rattle.std.specs.Prelude.{◌≡◌, IfOk};
+ghost use Rattle.lapd_conform.specs.Outcomes.{HasReasons, IsReasoned, place_refused};
+
 use crate::outcome::{Doubt, Outcome, Played};
 use lapd_conform_judge::{Judgement, Params, Sapi, Setup, Tei, Verdict, judge, verdict_on};
 use lapd_conform_player::{
@@ -37,6 +40,9 @@ struct Judged {
 
 /// Plays a case. If it fails, it is played again: it fails only if it fails again.
 ///
+/// A case that failed has the frame that is refused. One that passed reached its purpose, and no
+/// frame is refused.
+///
 /// # Errors
 ///
 /// The stack is out of reach, or an allocation failed.
@@ -46,7 +52,9 @@ pub fn play<S: Station>(
     stack: &Stack,
     session: &mut Session,
     case: &Case<'_>,
-) -> Result<Outcome, Lost> {
+) -> Result<Outcome, Lost>
+    ensures { IfOk result IsReasoned }
+{
     if let Some(lacks) = lack(stack, case) {
         return Ok(Outcome::NotApplicable(lacks));
     }
@@ -59,7 +67,10 @@ pub fn play<S: Station>(
 }
 
 /// The result of a case that failed before.
-fn repeated(played: Played) -> Played {
+fn repeated(played: Played) -> Played
+    requires { HasReasons played }
+    ensures { HasReasons result }
+{
     if played.verdict == Verdict::Fail {
         return played;
     }
@@ -76,7 +87,9 @@ fn play_once<S: Station>(
     stack: &Stack,
     session: &mut Session,
     case: &Case<'_>,
-) -> Result<Played, Lost> {
+) -> Result<Played, Lost>
+    ensures { IfOk result HasReasons }
+{
     let performance = perform(alloc, station, stack, session.tei, case)?;
     session.tei = kept_tei(stack, session.tei, case, &performance);
     let judged = judged_performance(alloc, stack, case, &performance)?;
@@ -101,7 +114,9 @@ fn kept_tei(
 }
 
 /// The result of a case that was played once.
-fn played(performance: Performance, judged: Judged) -> Played {
+fn played(performance: Performance, judged: Judged) -> Played
+    ensures { HasReasons result }
+{
     Played {
         verdict: verdict_on(performance.reason.is_none(), judged.judgement),
         line: performance.line,
@@ -112,7 +127,9 @@ fn played(performance: Performance, judged: Judged) -> Played {
     }
 }
 
-fn place_refused(judgement: Judgement) -> Option<usize> {
+fn place_refused(judgement: Judgement) -> Option<usize>
+    ensures { result ≡ place_refused judgement }
+{
     match judgement {
         Judgement::Refused(place) => Some(place),
         _ => None,
