@@ -48,12 +48,17 @@ impl Table {
         let Ok(text) = round.text(self.alloc, &self.stack) else {
             return Err(Lost::Memory);
         };
+        self.verdict_on(text.as_slice())
+    }
+
+    /// The verdict on the case of this text.
+    fn verdict_on(&mut self, text: &[u8]) -> Result<Verdict, Lost> {
         let outcome = play_round(
             self.alloc,
             &mut self.station,
             &self.stack,
             &mut self.session,
-            text.as_slice(),
+            text,
         )?;
         match outcome {
             Outcome::Played(played) => Ok(played.verdict),
@@ -229,19 +234,9 @@ fn run_draws(recorder: &mut Recorder, own: Own, plan: DrawPlan) -> Result<DrawCo
 
 /// Whether the text is a suite whose first case fails against this stack.
 fn fails_again(alloc: Global, own: Own, text: &[u8]) -> bool {
-    let Ok(mut table) = Table::new(alloc, own) else {
-        return false;
-    };
-    let outcome = play_round(
-        alloc,
-        &mut table.station,
-        &table.stack,
-        &mut table.session,
-        text,
-    );
-    match outcome {
-        Ok(Outcome::Played(played)) => played.verdict == Verdict::Fail,
-        _ => false,
+    match Table::new(alloc, own) {
+        Ok(mut table) => matches!(table.verdict_on(text), Ok(Verdict::Fail)),
+        Err(_) => false,
     }
 }
 

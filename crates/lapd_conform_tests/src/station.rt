@@ -5,6 +5,7 @@ ghost use Rattle.std.specs.Prelude.{◌≡◌};
 
 use crate::asked_rows::AskedRows;
 use lapd_conform::{Lost, Request as Asked, Station};
+use lapd_frame::Frame;
 use lapd_link::Timer;
 use lapd_sides::{
     Acts, Config, Durations, EitherSide, LinkId, NetSide, Params, Request, Sapi, Side, Tei,
@@ -241,36 +242,26 @@ impl OwnStation {
     fn note_octets(&mut self, octets: &[u8]) {
         match lapd_frame::read(octets, self.own.side.other()) {
             Ok(frame) => {
-                let address = frame.address();
-                let id = LinkId {
-                    tei: address.tei,
-                    sapi: address.sapi,
-                };
-                if let Some(link) = self.side.table().link(id) {
-                    self.id = Some(id);
-                    self.rows.note_frame(link, &frame);
+                if note_frame(&self.side, &mut self.rows, &frame) {
+                    self.id = Some(LinkId::of_address(&frame.address()));
                 }
             }
-            Err(fault) => {
-                if let Some(id) = self.id
-                    && fault.kind.is_for_link()
-                    && let Some(link) = self.side.table().link(id)
-                {
-                    self.rows.note_fault(link);
-                }
-            }
+            Err(fault) if fault.kind.is_for_link() => self.note_fault(),
+            Err(_) => {}
+        }
+    }
+
+    /// Notes the row of a frame that is not valid, for the link of the last frame.
+    fn note_fault(&mut self) {
+        if let Some(id) = &self.id {
+            note_fault(&self.side, &mut self.rows, id);
         }
     }
 
     /// Notes the row of a timer of the link that is due.
     fn note_expiry(&mut self) {
-        if let Some(id) = self.id
-            && let Some(timers) = self.side.timers(Some(id))
-            && let Some(timer) = timers.due(self.now)
-            && matches!(timer, Timer::T200 | Timer::T203)
-            && let Some(link) = self.side.table().link(id)
-        {
-            self.rows.note_expiry(link, timer);
+        if let Some(id) = &self.id {
+            note_expiry(&self.side, &mut self.rows, id, self.now);
         }
     }
 
@@ -317,15 +308,9 @@ impl OwnStation {
 
     fn execute(&mut self, asked: Asked, tei: u16) -> Result<(), AllocError> {
         self.run_all()?;
-        let id = LinkId {
-            tei: Tei::new((tei % 128) as u8).unwrap_or(Tei::group()),
-            sapi: Sapi::Call,
-        };
-        let request = requested(self.alloc, asked, id)?;
-        if self.is_noting
-            && let Some(link) = self.side.table().link(id)
-        {
-            self.rows.note_request(link, &request);
+        let request = requested(self.alloc, asked, link_id(tei))?;
+        if self.is_noting {
+            note_request(&self.side, &mut self.rows, &link_id(tei), &request);
         }
         let done = self.side.request(request, self.now, &mut self.acts);
         if done.is_ok() {
@@ -438,5 +423,56 @@ impl Station for OwnStation {
 
     fn lateness(&self) -> u64 {
         0
+    }
+}
+
+/// The link of calls with this TEI.
+fn link_id(tei: u16) -> LinkId {
+    LinkId {
+        tei: Tei::new((tei % 128) as u8).unwrap_or(Tei::group()),
+        sapi: Sapi::Call,
+    }
+}
+
+/// Notes the row of a frame, if the side has its link.
+fn note_frame(side: &EitherSide, rows: &mut AskedRows, frame: &Frame<'_>) -> bool {
+    match side.table().link(LinkId::of_address(&frame.address())) {
+        Some(link) => {
+            rows.note_frame(link, frame);
+            true
+        }
+        None => false,
+    }
+}
+
+fn note_fault(side: &EitherSide, rows: &mut AskedRows, id: &LinkId) {
+    if let Some(link) = side.table().link(*id) {
+        rows.note_fault(link);
+    }
+}
+
+fn note_request(side: &EitherSide, rows: &mut AskedRows, id: &LinkId, request: &Request) {
+    if let Some(link) = side.table().link(*id) {
+        rows.note_request(link, request);
+    }
+}
+
+/// Notes the row of T200 or T203 of this link, if it is due.
+fn note_expiry(side: &EitherSide, rows: &mut AskedRows, id: &LinkId, now: u64) {
+    if let Some(timer) = due_timer(side, id, now)
+        && let Some(link) = side.table().link(*id)
+    {
+        rows.note_expiry(link, timer);
+    }
+}
+
+fn due_timer(side: &EitherSide, id: &LinkId, now: u64) -> Option<Timer> {
+    match side.timers(Some(*id)) {
+        Some(timers) => match timers.due(now) {
+            Some(Timer::T200) => Some(Timer::T200),
+            Some(Timer::T203) => Some(Timer::T203),
+            _ => None,
+        },
+        None => None,
     }
 }
