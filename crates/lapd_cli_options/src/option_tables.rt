@@ -187,14 +187,12 @@ const SENDER: WordOption = WordOption {
     ..SIDE
 };
 
-/// The time before each trace line that `decode` prints of a capture or a log.
+/// The time before each trace line that `decode` prints of a capture.
 const FRAME_TIME: WordOption = WordOption {
     name: "time",
     value_name: "TIME",
     help: help::FRAME_TIME,
-    words: &[
-        "none", "absolute", "relative", "delta", "day", "utc", "local",
-    ],
+    words: &["none", "absolute", "relative", "delta", "day"],
     default: "none",
 };
 
