@@ -208,7 +208,7 @@ fn run_any_lines<R: Read, W: Write>(
 ) -> Result<(), Stop> {
     match how.form {
         LineForm::Strict => run_lines(rt, script, out, how, chosen.strict),
-        LineForm::Loose(_) => run_log(rt, chosen, script, out, how, options),
+        LineForm::Loose(_) | LineForm::Timed(_) => run_log(rt, chosen, script, out, how, options),
     }
 }
 
@@ -298,14 +298,15 @@ fn style_of(options: DecodeOptions) -> Style {
     }
 }
 
-// The time before a trace line.
-fn time_of(time: PrintedTime) -> FrameTime {
+/// The time before a trace line.
+pub fn time_of(time: PrintedTime) -> FrameTime {
     match time {
         PrintedTime::Hidden => FrameTime::Hidden,
         PrintedTime::Absolute => FrameTime::Absolute,
         PrintedTime::Relative => FrameTime::Relative,
         PrintedTime::Delta => FrameTime::Delta,
         PrintedTime::Day => FrameTime::Day,
+        PrintedTime::Utc | PrintedTime::Local => FrameTime::Date,
     }
 }
 

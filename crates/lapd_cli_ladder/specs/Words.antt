@@ -87,9 +87,11 @@ busy_words Free = []
 busy_words Reported = codes " busy"
 busy_words Answered = codes " busy"
 
+-- an end that has released its link has no numbers
 abbrev pub end_words : EndKnown → List ℕ
 end_words e = if is_some e.commands.last then command_words e.is_establishing
-    else (numbers_words e.numbering ++ (poll_words (is_some e.polls.last) ++ busy_words e.busy))
+    else (if e.is_released then codes "-"
+    else (numbers_words e.numbering ++ (poll_words (is_some e.polls.last) ++ busy_words e.busy)))
 
 -- a hyphen if the link is not known, since its TEI was just assigned or removed
 abbrev pub link_words : Side → Option LinkKnown → List ℕ

@@ -12,6 +12,7 @@ mod block;
 mod cisco;
 mod date;
 mod listed;
+mod log_clock;
 mod log_reader;
 mod named_span;
 mod script_line;
@@ -21,7 +22,8 @@ mod traced;
 mod word_dump;
 
 pub use lapd_frame::Side;
-pub use log_reader::{LogReader, LogStyle, span_name};
+pub use lapd_zone::Zone;
+pub use log_reader::{LogReader, LogStyle, LogTimes, span_name};
 pub use named_span::{NamedSpan, span_in};
 pub use script_line::is_script_line;
-pub use stamp::{Stamp, stamp_in};
+pub use stamp::{Stamp, StampDate, has_stamp, stamp_in};

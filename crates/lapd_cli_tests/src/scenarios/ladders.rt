@@ -46,7 +46,8 @@ user 008102000801010f
 user 008153
         11  DISC sent |-- 0 64 DISC P=1 ------------------------------>| -
 net 008173
-        12      S0 R0 |<-- 0 64 UA F=1 --------------------------------| S0 R0
+        12          - |<-- 0 64 UA F=1 --------------------------------| -
+                      |  ends establishment 1                          |
                       |  answers packet 11                             |
 
 lapd decode --ladder --kinds i --count 2
