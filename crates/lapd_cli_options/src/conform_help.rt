@@ -1,7 +1,7 @@
 //! The help of `conform`.
 
 /// The description of the command `conform`.
-pub const ABOUT: &str = "Tests the conformance of another LAPD stack over TCP, by a suite of cases";
+pub const ABOUT: &str = "Tests another LAPD stack over TCP, by a suite of cases";
 
 /// The help of its options.
 pub const CONNECT: &str = "\
@@ -11,8 +11,8 @@ Connects to the stack at this address, such as
 pub const LISTEN: &str = "Waits for the stack at this address";
 
 pub const OF: &str = "\
-The side that is tested; lapd is the other
-one";
+The side that is tested, net or user; lapd is
+the other one";
 
 pub const STACK: &str = "\
 Reads the parameters of the stack from this file;
@@ -58,8 +58,9 @@ Prints the cases of the suite as text, and tests
 nothing";
 
 /// The end of its short help.
-pub const SHORT: &str =
-    "`--help` describes the results, the stack file, the upper tester and the exit statuses.";
+pub const SHORT: &str = "\
+`--help` describes the results, the stack file, the upper tester and the exit
+statuses.";
 
 /// The end of its long help.
 pub const CONFORM: &str = "\
@@ -157,7 +158,8 @@ Exit status:
   141  the reader of standard output has ended
 
 Example: `lapd net` is the stack under test.
-  $ lapd net --listen 127.0.0.1:4000 --clock real --serve </dev/null >/dev/null &
+  $ lapd net --listen 127.0.0.1:4000 --clock real --serve \\
+      </dev/null >/dev/null &
   $ lapd conform --connect 127.0.0.1:4000 --of net --cases '7-V-0*'
   pass 7-V-01 RR command with P=1
   ..

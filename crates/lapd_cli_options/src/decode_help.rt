@@ -15,13 +15,13 @@ Lines of a text:
 With --loose also, by the first of these forms that a line has:
   user 00 81 7f, net 0x00:0x81  in HEX spaces, tabs, colons, brackets and 0x are
                                 ignored
-  > [ 00 81 7f ]                libpri's own line: the side that printed it sent these octets
+  > [ 00 81 7f ]                libpri's own line: the side that printed it sent
+                                these octets
   < [ 00 81 73 ]                the same: the other side sent these octets
   TEXT > [ 00 81 7f ] TEXT      the same in a log, as of Asterisk or FreeSWITCH;
                                 also with <
   00000000: 0081 7f    TEXT     a hex dump (xxd, tcpdump), of one line or
-                       several with the offset of
-                                each
+                                several with the offset of each
   0000  00 81 7f    TEXT        the same of Wireshark, hexdump -C or od -tx1
   00 81 7f                      HEX alone
 Lines of logs of Cisco (debug isdn q921), Osmocom and mISDN, lists such as
@@ -59,11 +59,13 @@ Output for a frame, in one line:
 Output for octets that do not form a valid frame: U>N or N>U, the fault, such as
 F1 TooShort, and HEX. With --names a message of TEI management or of Q.931
 follows, in words:
-  identity request Ri=6199 Ai=127   its type, reference number and action indicator
-  SETUP cr=1 from origin            its name and call reference, and whether it is from or to the
-                                    side at which the call began; cr=dummy if it has no reference
+  identity request Ri=6199 Ai=127
+                its type, reference number and action indicator
+  SETUP cr=1 from origin
+                its name and call reference, and whether it is from or to the
+                side at which the call began; cr=dummy if it has no reference
   bearer=speech channel=B2 cause=16 calling=5551234 called=200
-                                    then these information elements, in the order of the message
+                then these information elements, in the order of the message
 
 With --no-octets the line has no info=HEX, but only these words.
 
@@ -122,7 +124,9 @@ With --json a line is an object with these members, in the order of their names:
                    after a point
   remarks          with --follow, the last one: a list of objects with class,
                    clause and text
-For example: {\"direction\":\"U>N\",\"frame\":\"SABME\",\"p\":1,\"role\":\"command\",\"sapi\":0,\"tei\":64}
+For example, in one line:
+  {\"direction\":\"U>N\",\"frame\":\"SABME\",\"p\":1,\"role\":\"command\",
+   \"sapi\":0,\"tei\":64}
 
 Example. A line after < is a line of the script, and a line after > is printed.
   < user 00817f

@@ -7,11 +7,10 @@ pub const ABOUT: &str = "LAPD, the data link layer of the ISDN D channel (ITU-T 
 
 /// The description of the command `answer`.
 pub const ANSWER_ABOUT: &str =
-    "Runs one end of a link from a script, by default with SAPI 0 and TEI 64";
+    "Runs one end of a link from a script, by default of SAPI 0 and TEI 64";
 
 /// The description of the command `bus`.
-pub const BUS_ABOUT: &str =
-    "Runs a bus of terminals that get TEIs from a network side, from a script";
+pub const BUS_ABOUT: &str = "Runs a bus of terminals that get TEIs from a network, from a script";
 
 /// The help of the options of `bus`.
 pub const LINKS: &str = "\
@@ -27,8 +26,7 @@ network";
 pub const PAIR_ABOUT: &str = "Runs two ends of a link and the line between them, from a script";
 
 /// The description of the command `loop`.
-pub const LOOP_ABOUT: &str =
-    "The same as `pair`, with each frame sent over TCP to the program itself";
+pub const LOOP_ABOUT: &str = "As `pair`, with each frame sent over TCP to the program itself";
 
 /// The description of the command `net`.
 pub const NET_ABOUT: &str = "Runs the network side of an interface over TCP, from a script";
@@ -41,19 +39,20 @@ pub const DECODE_ABOUT: &str = "Prints the frames of captures, scripts, logs and
 
 /// The help of `--recovery`.
 pub const RECOVERY: &str = "\
-The frame that T200 sends in state 7: an enquiry,
-or the last I frame again";
+The frame that T200 sends in state 7: enquiry,
+or last for the last I frame";
 
 /// The help of `--recovery-user`, of `pair` and `loop`.
 pub const RECOVERY_USER: &str = "\
 The frame that T200 of the user side sends in
-state 7: an enquiry, or the last I frame again";
+state 7: enquiry, or last for the last I
+frame";
 
 /// The help of `--recovery-net`, of `pair` and `loop`.
 pub const RECOVERY_NET: &str = "\
 The frame that T200 of the network side sends
-in state 7: an enquiry, or the last I frame
-again";
+in state 7: enquiry, or last for the last I
+frame";
 
 /// The help of `--sapi`, of `answer`.
 pub const SAPI: &str = "\
@@ -93,10 +92,10 @@ Reads only the lines of this span of a log, such as 1 or
 BR0/0; by default each span is printed by itself";
 
 pub const SENDER: &str = "\
-The side that printed the lines of libpri and of logs,
-and that sent the octets of a line or a capture that
-does not name it; by default it is taken from their kind
-and C/R bit";
+The side, net or user, that printed the lines of libpri
+and of logs, and that sent the octets of a line or a
+capture that does not name it; by default it is taken
+from their kind and C/R bit";
 
 pub const NAMES: &str = "\
 Adds the message of TEI management or of Q.931 to the
@@ -151,11 +150,12 @@ Prints only frames that violate Q.921, with the remarks
 and the tables of --follow";
 
 pub const FRAME_TIME: &str = "\
-Begins each trace line of a capture or a log with the
-time in seconds: since 1970, since the first printed
-frame, or since the printed frame before; or with the
-time of day in UTC, or the date and time in UTC or in
-your time zone";
+Begins each trace line of a capture or a log with its
+time, in seconds: absolute, since 1970; relative, since
+the first printed frame; delta, since the printed frame
+before; or as day, the time of day in UTC; or as utc or
+local, the date and time in UTC or in your
+time zone; or none";
 
 pub const KINDS: &str = "\
 Prints only frames of these kinds, with commas between:
@@ -165,8 +165,9 @@ pub const NO_POLLS: &str = "Leaves out supervisory frames with P or F 1";
 
 pub const COLOR: &str = "\
 Prints trace lines in a color for each sender,
-violations in red; auto: if standard output is a
-terminal and NO_COLOR is not set";
+violations in red: always, never, or auto, if
+standard output is a terminal and
+NO_COLOR is not set";
 
 pub const ANY_SAPI: &str = "Prints frames of all SAPIs, not only of 0, 16 and 63";
 
@@ -175,10 +176,9 @@ pub const SIDE_JSON: &str = "Prints each line as a JSON object";
 
 /// The help of the options of the clock.
 pub const CLOCK: &str = "\
-The clock: that of the script, which only `tick`
-advances, or the real one; without this option
-the real one at a terminal, and else that of the
-script";
+The clock: script, which only `tick` advances, or
+real; without this option real at a terminal, and
+else script";
 
 pub const TIME: &str = "\
 With --clock real, begins each line with the

@@ -174,7 +174,7 @@ const LIVE: &[CommandOption] = &[
 const SIDE: WordOption = WordOption {
     name: "side",
     value_name: "SIDE",
-    help: "The side of the link",
+    help: "The side of the link, net or user",
     words: &["net", "user"],
     default: "net",
 };

@@ -193,7 +193,8 @@ words are in the member `expected`. The words of `nothing`, `state` and `stats`
 are in `line`, and `sapi`, `tei` and each NAME=NUMBER are members.
 
 Example, with the real clock:
-  $ printf 'expect 0 64 established 60000\\ngive 0 64 0807\\nexpect 0 64 acknowledged 5000\\nstate\\n' |
+  $ printf '%s\\n' 'expect 0 64 established 60000' 'give 0 64 0807' \\
+      'expect 0 64 acknowledged 5000' state |
       lapd net --listen 127.0.0.1:4000 --clock real --time
   1 U>N SAPI 63 TEI 127 C UI P=0 info=0f619901ff
   1 N>U SAPI 63 TEI 127 C UI P=0 info=0f61990281
