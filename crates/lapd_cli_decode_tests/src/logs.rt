@@ -22,6 +22,8 @@ TX -> FRMR sapi=0 tei=0~TX -> INFO sapi=0 tei=0~TX -> RRx sapi=0 tei=0 nr=1~TX -
 a[] = {~  0x00, 0x81, 0x00, 0x00, 0x08, 0x02, 0x01, 0x01, 0x05, 0x04, 0x03, 0x80,~  0x90, 0xa3~};||a[] = {~~   00   81   00   00   08   02   01   01   05   04   03   80    90   a3~};|
 008100000802010105040380a218039a21803a9838100000000000000000~0102~~008100000802010105040380a218039a21803a9838100000000000000000~0102~0304~||~008100000802010105040380a218039a21803a98381000000000000000000102~~008100000802010105040380a218039a21803a9838100000000000000000~0102~0304~|
  00 81 00 00 08 02 01 01 05 04 03 80 90 a3 18 03~ a9 83 81~ 00 81 7f||~ 00 81 00 00 08 02 01 01 05 04 03 80 90 a3 18 03 a9 83 81~ 00 81 7f|
+U>N SAPI 0 TEI 64 C SABME P=1~0.250000 N>U SAPI 0 TEI 64 R UA F=1; begins establishment 1; answers packet 1~net U>N SAPI 0 TEI 64 C I N(S)=127 N(R)=0 P=1 info=0801 SETUP cr=1~U>N SAPI 16 TEI 0 R RR N(R)=3 F=1~U>N SAPI 0 TEI 64 C RNR N(R)=0 P=0~N>U SAPI 0 TEI 64 R REJ N(R)=1 F=0~N>U SAPI 63 TEI 127 C UI P=0 info=0f005502b9 identity assigned Ri=0055 Ai=92~N>U SAPI 0 TEI 64 C DISC P=1~U>N SAPI 0 TEI 64 R DM F=1~U>N F1 TooShort 00; violation~U>N F1 TooShort||user 00817f~net 008173~user 0081fe010801~user 42010107~user 00810500~net 00810902~net feff030f005502b9~net 028153~user 02811f~user 00~user |
+?>? SAPI 0 TEI 64 ? RR N(R)=1 P/F=1~U>N SAPI 0 TEI 64 C I N(S)=0 P=0~U>N SAPI 7 TEI 64 C UA P=0~U>N SAPI 0 TEI 64 C UA P=0~  U>N I 1, RR 0, RNR 0~U>N SAPI 0 TEI 64 C SABME||?>? SAPI 0 TEI 64 ? RR N(R)=1 P/F=1~U>N SAPI 0 TEI 64 C I N(S)=0 P=0~U>N SAPI 7 TEI 64 C UA P=0~U>N SAPI 0 TEI 64 C UA P=0~  U>N I 1, RR 0, RNR 0~U>N SAPI 0 TEI 64 C SABME|
 PRI Span: 1 > [ 00 01 7f ]~PRI Span: 2 > [ 00 01 7f ]~more~PRI Span: 1 < [ 00 01 73 ]||PRI Span: 1 > [ 00 01 7f ]~~~PRI Span: 1 < [ 00 01 73 ]|PRI Span: 2 > [ 00 01 7f ]~more~
 PRI Span: 1 > [ 00 01 7f ]~PRI Span: 2 > [ 00 01 7f ]~[PRI Span: 2 D-Channel: 1] b|2|~PRI Span: 2 > [ 00 01 7f ]~[PRI Span: 2 D-Channel: 1] b|
 [PRI Span: 1 D-Channel: 0] a~[PRI Span: 1 D-Channel: 1] b~[s3c16][3:16] c||[PRI Span: 1 D-Channel: 0] a~~|[PRI Span: 1 D-Channel: 1] b~[s3c16][3:16] c~"#;
@@ -86,10 +88,20 @@ fn begins_with(printed: &[u8], wanted: &str) -> bool {
 // Prints a log with this time. Returns how many times go back.
 fn print_log(alloc: Global, time: &str, log: &str, printed: &mut Vec<u8>) -> Option<u64> {
     let zone = Zone::of_text(alloc, b"CET-1CEST,M3.5.0,M10.5.0/3")?;
+    print_log_in(alloc, times_of(time, &zone), time, log, printed)
+}
+
+fn print_log_in(
+    alloc: Global,
+    times: LogTimes<'_>,
+    time: &str,
+    log: &str,
+    printed: &mut Vec<u8>,
+) -> Option<u64> {
     let style = LogStyle {
         printer: None,
         span: None,
-        times: times_of(time, &zone),
+        times,
     };
     let Ok(mut reader) = LogReader::new(alloc, log.as_bytes(), style) else {
         return None;
@@ -108,12 +120,16 @@ fn print_log(alloc: Global, time: &str, log: &str, printed: &mut Vec<u8>) -> Opt
         keeps_going: false,
         follow,
     };
-    let mut joined = JoinedDumps::new(alloc, &mut reader);
-    let ended = print_lines(alloc, &mut joined, printed, how, io::sink());
-    if ended.is_err() {
-        return None;
+    if is_printed(alloc, &mut reader, printed, how) {
+        Some(reader.times_gone_back())
+    } else {
+        None
     }
-    Some(reader.times_gone_back())
+}
+
+fn is_printed<L: Read>(alloc: Global, log: &mut L, printed: &mut Vec<u8>, how: LinesStyle) -> bool {
+    let mut joined = JoinedDumps::new(alloc, log);
+    print_lines(alloc, &mut joined, printed, how, io::sink()).is_ok()
 }
 
 fn times_of<'a>(time: &str, zone: &'a Zone) -> LogTimes<'a> {

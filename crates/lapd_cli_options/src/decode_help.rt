@@ -24,11 +24,11 @@ With --loose also, by the first of these forms that a line has:
                                 several with the offset of each
   0000  00 81 7f    TEXT        the same of Wireshark, hexdump -C or od -tx1
   00 81 7f                      HEX alone
-Lines of logs of Cisco (debug isdn q921), Osmocom and mISDN, lists such as
-00-81-7f or 0x00,0x81, and dumps of xxd -i, xxd -p and od -An are rewritten in
-these forms. Each span that a log names is a line of its own, and --span picks
-one. Lines of no form are skipped with --loose, and their number is printed on
-standard error at the end.
+Lines of logs of Cisco (debug isdn q921), Osmocom and mISDN, trace lines of
+lapd, lists such as 00-81-7f or 0x00,0x81, and dumps of xxd -i, xxd -p and
+od -An are rewritten in these forms. Each span that a log names is a line of its
+own, and --span picks one. Lines of no form are skipped with --loose, and their
+number is printed on standard error at the end.
 
 A capture is pcap or pcapng of link type 177 (LINUX_LAPD) or 203 (LAPD), or
 GSMTAP over UDP and IP: in Ethernet, in raw IP, in captures of a loopback
@@ -92,10 +92,11 @@ With --ladder each frame is an arrow between the user at the left and the
 network at the right, with the number of its packet, its time, and what the
 frames show of both ends: S and the next N(S), R and the last N(R), poll if a
 poll is not answered, busy, or SABME sent or DISC sent if that is not answered.
-In the arrow are SAPI, TEI and the fields; below it are the remarks. There are
-no tables. A frame whose sender is not known is a line between two ?, without a
-head. --svg draws the same into a file, on pages of 25 frames, 10000 frames at
-most without --count.
+In the arrow are SAPI, TEI and the fields, with --names behind the name of the
+message in place of its octets; below it are the remarks. There are no tables.
+A frame whose sender is not known is a line between two ?, without a head. --svg
+draws the same into a file, on pages of 25 frames, 10000 frames at most without
+--count.
 
 --html writes a page for a browser, which loads nothing: the ladder with search,
 filters and folding, and the octets of a frame beside their fields. --write

@@ -18,6 +18,7 @@ mod named_span;
 mod script_line;
 mod stamp;
 mod text;
+mod trace;
 mod traced;
 mod word_dump;
 

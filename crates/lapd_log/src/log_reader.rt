@@ -9,6 +9,7 @@ use crate::log_clock::LogClock;
 use crate::named_span::span_in;
 use crate::stamp::{Stamp, StampDate};
 use crate::text::behind;
+use crate::trace::{TraceLine, trace_line};
 use crate::traced::traced_line;
 use crate::word_dump::{has_offset, is_word_dump};
 use arrayvec::ArrayVec;
@@ -30,14 +31,14 @@ const DIGITS: &[u8; 16] = b"0123456789abcdef";
 
 /// How the lines of a log are read.
 #[derive(Clone, Copy)]
-pub struct LogStyle<'a> {
+pub struct LogStyle<'a, 'z> {
     /// The side that printed the log. If it is `None`, a line of Cisco that does not say it is
     /// taken as of the user side.
     pub printer: Option<Side>,
     /// The span whose lines are read; the first one that a line names, if it is `None`.
     pub span: Option<&'a str>,
     /// The times that are put in front of lines.
-    pub times: LogTimes<'a>,
+    pub times: LogTimes<'z>,
 }
 
 /// The times that are put in front of the lines of a log.
@@ -54,8 +55,8 @@ pub enum LogTimes<'a> {
 }
 
 /// A reader of text that rewrites the lines of another reader's log in the forms that `decode`
-/// reads: lines of Cisco, of Osmocom and of mISDN, and octets that are listed with commas, dashes or
-/// escapes. Lists and dumps without offsets that have several lines are joined to one, which follows
+/// reads: lines of Cisco, of Osmocom and of mISDN, trace lines of `lapd`, and octets that are listed
+/// with commas, dashes or escapes. Lists and dumps without offsets that have several lines are joined to one, which follows
 /// empty lines, so that the lines keep their numbers. If times are
 /// requested, a line with a time has it in front, as `@` and the microseconds since 1970, and a line
 /// without one has that of the line before; but not a line of a dump with offsets.
@@ -68,10 +69,10 @@ pub enum LogTimes<'a> {
 /// A line is passed on when it was read, the last line of a dump when the next one was. Its memory
 /// is bounded but for the lines of other spans.
 #[derive(Drop)]
-pub struct LogReader<'a, R> {
+pub struct LogReader<'a, 'z, R> {
     alloc: Global,
     reader: R,
-    style: LogStyle<'a>,
+    style: LogStyle<'a, 'z>,
     /// The line that is being read.
     line: Vec<u8>,
     /// Whether the beginning of this line was passed on, since it is too long to be rewritten.
@@ -126,7 +127,7 @@ impl LogTimes<'_> {
     }
 }
 
-impl<'a, R: Read + Drop> LogReader<'a, R> {
+impl<'a, 'z, R: Read + Drop> LogReader<'a, 'z, R> {
     /// Rewrites the text of this reader.
     ///
     /// # Errors
@@ -135,8 +136,8 @@ impl<'a, R: Read + Drop> LogReader<'a, R> {
     pub fn new(
         alloc: Global,
         reader: R,
-        style: LogStyle<'a>,
-    ) -> Result<LogReader<'a, R>, AllocError> {
+        style: LogStyle<'a, 'z>,
+    ) -> Result<LogReader<'a, 'z, R>, AllocError> {
         let mut span = Vec::new(alloc);
         if let Some(chosen) = style.span {
             span.extend_from_slice(chosen.as_bytes())?;
@@ -347,12 +348,29 @@ impl<'a, R: Read + Drop> LogReader<'a, R> {
                 return push_digits(&mut self.ready, octets.as_slice());
             }
         }
+        if let Some(trace) = trace_line(line) {
+            return self.push_trace(trace, line);
+        }
         if let Some(traced) = traced_line(line) {
             let mark: &[u8] = if traced.is_sent { b"> " } else { b"< " };
             self.ready.extend_from_slice(mark)?;
             return self.ready.extend_from_slice(traced.text);
         }
         self.push_sides_list(line)
+    }
+
+    // Appends the octets of a trace line, or the line unchanged if it does not fix them.
+    fn push_trace(&mut self, trace: TraceLine<'_>, line: &[u8]) -> Result<(), AllocError> {
+        if let Some(digits) = trace.faulty_digits() {
+            self.push_sender(trace.from)?;
+            return self.ready.extend_from_slice(digits);
+        }
+        let mut octets = ArrayVec::new();
+        if !trace.octets_into(self.alloc, &mut octets)? {
+            return self.ready.extend_from_slice(line);
+        }
+        self.push_sender(trace.from)?;
+        push_digits(&mut self.ready, octets.as_slice())
     }
 
     // Appends the side that sent the octets behind it.
@@ -481,7 +499,7 @@ impl Held {
     }
 }
 
-impl<R: Read + Drop> Read for LogReader<'_, R> {
+impl<R: Read + Drop> Read for LogReader<'_, '_, R> {
     fn read(&mut self, octets: &mut [u8]) -> io::Result<usize> {
         let mut part = [0; PART];
         for _read in 0..u64::MAX {
