@@ -361,7 +361,7 @@ fn run_net<R: Read, W: Write>(
         config_of(setup.interface, setup.interface.seed.unwrap_or(SCRIPT_SEED)),
         setup.interface.teis.as_slice(),
     );
-    connection::close(rt, &notes, stream);
+    connection::close(rt, &notes, stream, is_port_fault(&ended));
     ended.map_err(Stop::Script)
 }
 
@@ -384,8 +384,13 @@ fn run_user<R: Read, W: Write>(
         config_of(setup.interface, setup.interface.seed.unwrap_or(SCRIPT_SEED)),
         setup.interface.fixed(),
     );
-    connection::close(rt, &notes, stream);
+    connection::close(rt, &notes, stream, is_port_fault(&ended));
     ended.map_err(Stop::Script)
+}
+
+// Whether a fault of the connection ended a script.
+fn is_port_fault(ended: &Result<(), ScriptFault>) -> bool {
+    matches!(ended, Err(ScriptFault::Port(_)))
 }
 
 /// The configuration of a side of this interface, with this seed of its reference numbers.

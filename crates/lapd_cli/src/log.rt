@@ -25,8 +25,8 @@ const MOST_FRONT: usize = 4096;
 
 /// How a log is printed, and how its times are read.
 #[derive(Clone, Copy)]
-struct SpanStyle<'a> {
-    log: LogStyle<'a>,
+struct SpanStyle<'a, 'z> {
+    log: LogStyle<'a, 'z>,
     lines: LinesStyle,
     /// Whether times were requested by name.
     wants_times: bool,
@@ -57,7 +57,20 @@ pub fn run_log<R: Read, W: Write>(
     let Ok(count) = script.read(&mut front) else {
         return Err(Stop::Script(ScriptFault::Device));
     };
-    let front = &front[..count];
+    run_behind(rt, chosen, &front[..count], script, out, how, options)
+}
+
+// Prints the frames of a log that begins with these octets, which were read before. A line of them
+// that has a time decides whether times are printed.
+fn run_behind<'l, R: Read, W: Write>(
+    rt: &HostRuntime,
+    chosen: &Invocation<'_>,
+    front: &'l [u8],
+    script: &'l mut R,
+    out: &mut W,
+    how: LinesStyle,
+    options: DecodeOptions,
+) -> Result<(), Stop> {
     let time = if has_stamp(front) {
         options.time_in_capture()
     } else {
@@ -116,13 +129,13 @@ fn run_spans<L: Read + Drop, W: Write>(
 
 // How a log is printed with this time. Times are read if they are shown, or if a drawing or the
 // remarks need them.
-fn style_of<'a>(
+fn style_of<'a, 'z>(
     chosen: &Invocation<'a>,
     how: LinesStyle,
     options: DecodeOptions,
     time: PrintedTime,
-    zone: &'a Zone,
-) -> SpanStyle<'a> {
+    zone: &'z Zone,
+) -> SpanStyle<'a, 'z> {
     let printer = printer_of(how.form);
     let times = match time {
         PrintedTime::Hidden if how.follow.is_none() && how.frames.layout == Layout::Lines => {
@@ -161,7 +174,7 @@ fn run_span<L: Read + Drop, W: Write>(
     strict: bool,
     lines: L,
     out: &mut W,
-    style: SpanStyle<'_>,
+    style: SpanStyle<'_, '_>,
 ) -> (Result<(), Stop>, Vec<u8>) {
     let Ok(mut log) = LogReader::new(rt.alloc(), lines, style.log) else {
         return (Err(Stop::Script(ScriptFault::Memory)), Vec::new(rt.alloc()));
@@ -180,7 +193,11 @@ fn run_span<L: Read + Drop, W: Write>(
 }
 
 // Reports that times are missing, go back or have no year, where that matters.
-fn note_times<L: Read + Drop>(rt: &HostRuntime, log: &LogReader<'_, L>, style: SpanStyle<'_>) {
+fn note_times<L: Read + Drop>(
+    rt: &HostRuntime,
+    log: &LogReader<'_, '_, L>,
+    style: SpanStyle<'_, '_>,
+) {
     if matches!(style.log.times, LogTimes::Hidden) {
         return;
     }

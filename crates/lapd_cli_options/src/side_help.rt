@@ -146,13 +146,17 @@ these:
 The program ends at the end of the script. With --serve the side is then served
 until the other side closes the connection, also with `</dev/null`.
 
-With --keep the program accepts the next connection when one is lost: when the
-other side closes it or breaks its framing, or when it fails. The side continues
-as over a line that was interrupted:
-frames in transit are lost, and so are those that are sent while there is no
-connection. Standard error reports each lost connection. Without --keep a closed
-connection ends `run`, and a connection that fails ends the script with `port`,
+A connection is lost when the other side closes it or breaks its framing, or
+when it fails. `connection lost` is printed when the side next waits, and
+standard error has the reason. A closed connection ends `run`, `wait` and
+`expect`, and the script continues: `lost` and the frame is printed for a frame
+that is sent from then on. A connection that fails ends the script with `port`,
 its fault and exit status 3.
+
+With --keep the program accepts the next connection when one is lost, and the
+side continues as over a line that was interrupted: frames in transit are lost,
+and so are those that are sent while there is no connection. `run`, `wait` and
+`expect` do not end then.
 
 With --clear, when the first connection is made, the program removes all TEIs
 from the terminals, as `remove-all` does, before it sends anything else.
@@ -161,9 +165,9 @@ With --terminals N the program accepts up to N connections, each of a terminal
 on the bus. Each frame of this side is sent to all of them, and only terminals
 with its TEI use it. The script begins with the first connection. A connection
 is removed if it closes, breaks the framing, does not accept a frame, or sends
-no whole frame for --idle-limit MS. Standard error reports that, and the others
-continue. A closed connection does not end `run` then, and --keep changes
-nothing.
+no whole frame for --idle-limit MS. `connection lost` is printed, standard error
+has its address and the reason, and the others continue. A closed connection
+does not end `run` then, and --keep changes nothing.
 
 With --keep or --terminals above 1, at basic access, the program audits the TEIs
 of 64 to 126: when a terminal connects, and every --audit MS, it asks all
@@ -189,8 +193,9 @@ are sent again whose answers are still on their way.
 
 With --json and --time the last member is `time`. `expect` compares the words
 that are printed without --json. Of a line that was not printed in time, the
-words are in the member `expected`. The words of `nothing`, `state` and `stats`
-are in `line`, and `sapi`, `tei` and each NAME=NUMBER are members.
+words are in the member `expected`. The words of `nothing`, `connection lost`,
+`state` and `stats` are in `line`, and `sapi`, `tei` and each NAME=NUMBER are
+members.
 
 Example, with the real clock:
   $ printf '%s\\n' 'expect 0 64 established 60000' 'give 0 64 0807' \\
@@ -326,15 +331,17 @@ until the other side closes the connection. With --keep the program connects
 again when the connection is lost: after 100 ms, and then after pauses that
 double up to 5 seconds. The side continues as over a line that was interrupted:
 frames in transit are lost, and so are those that are sent while there is no
-connection. Standard error reports each lost connection.
+connection. `lapd net --help` describes the line `connection lost`, which is
+printed for each lost connection.
 
 T200 has to be longer than the way to the other side and back. Otherwise frames
 are sent again whose answers are still on their way.
 
 With --json and --time the last member is `time`. `expect` compares the words
 that are printed without --json. Of a line that was not printed in time, the
-words are in the member `expected`. The words of `nothing`, `state` and `stats`
-are in `line`, and `sapi`, `tei` and each NAME=NUMBER are members.
+words are in the member `expected`. The words of `nothing`, `connection lost`,
+`state` and `stats` are in `line`, and `sapi`, `tei` and each NAME=NUMBER are
+members.
 
 Example, with the real clock and the `lapd net` of the example of `lapd net
 --help` on the other side:
