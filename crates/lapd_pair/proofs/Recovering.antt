@@ -18,13 +18,11 @@ use Rattle.lapd_pair_laws.specs.Move.{PairEvent, Give, Establish, Release, Deliv
 use Rattle.lapd_pair_laws.specs.World.{World, new_world, world_after, happens, run, left}
 use Rattle.lapd_pair_laws.specs.Settle.{next_move}
 use Rattle.lapd_pair_laws.proofs.Stepping.{user_move, network_move, next_to_network, next_to_user, next_of_user, next_of_network, next_none}
-use Rattle.lapd_recovery_laws.specs.AfterOutage.{IsAfterOutage}
 use Rattle.lapd_recovery_laws.specs.Agreed.{IsLevel, AreLevel, AreReleased, AreAgreed}
 use Rattle.lapd_recovery_laws.specs.Deliveries.{frames}
 use Rattle.lapd_recovery_laws.specs.EveryWorld.{IsFreeWorld, most_moves_from}
-use Rattle.lapd_recovery_laws.specs.Own.{are_apart, is_due, IsOwn, AreOwn, Rests, most_own_moves, tried, first_own, recovering}
-use Rattle.lapd_recovery_laws.proofs.AfterOutage.{every_line_comes_back}
-use Rattle.lapd_recovery_laws.proofs.EveryWorld.{every_world_comes_back}
+use Rattle.lapd_recovery_laws.specs.Own.{are_apart, is_due, IsOwn, AreOwn, Rests, tried, first_own, recovering}
+use Rattle.lapd_recovery_laws.proofs.DespiteLosses.{every_world_comes_back}
 use Rattle.lapd_pair.specs.declared.line.Line.{Line}
 use Rattle.lapd_pair.specs.declared.pair.Pair.{Pair}
 use Rattle.lapd_pair.specs.declared.pair_fault.PairFault.{PairFault}
@@ -366,36 +364,13 @@ own_stopped_at before now after n m why made next refuses same w s few =
       admitted = own.admitted;
     }
 
--- ---- All worlds that one pair represents agree on what an outage leaves, and on agreement.
+-- ---- All worlds that one pair represents agree on busy ends, and on agreement.
 
 left_retries : (a b : ℕ) → a ≤ greater a b
 left_retries a b = grind (arith, nat_tests)
 
 right_retries : (a b : ℕ) → b ≤ greater a b
 right_retries a b = grind (arith, nat_tests)
-
-outage_again : (p : Pair) (w v : World) → PairRepresents p w → PairRepresents p v
-    → IsAfterOutage (most_retries w) w → IsAfterOutage (most_retries v) v
-unfolding begin
-outage_again p w v s t a =
-    let user_state : w.user.end.state ≡ v.user.end.state =
-    s.user.link.state ∙ sym t.user.link.state in
-    let network_state : w.network.end.state ≡ v.network.end.state =
-    s.network.link.state ∙ sym t.network.link.state in
-    record {
-      to_user = no_frames side.Network p.to_user w.to_user v.to_user a.to_user s.to_user t.to_user;
-      to_network =
-          no_frames side.User p.to_network w.to_network v.to_network a.to_network s.to_network
-          t.to_network;
-      user_free =
-          λ up. ap (λ m. m.own_busy) (t.user.link.window ∙ sym s.user.link.window) ∙ a.user_free
-          (ap is_7_or_8 user_state ∙ up);
-      network_free =
-          λ up. ap (λ m. m.own_busy) (t.network.link.window ∙ sym s.network.link.window) ∙
-          a.network_free (ap is_7_or_8 network_state ∙ up);
-      user_retries = left_retries v.user.end.parameters.n200 v.network.end.parameters.n200;
-      network_retries = right_retries v.user.end.parameters.n200 v.network.end.parameters.n200;
-    }
 
 free_again : (p : Pair) (w v : World) → PairRepresents p w → PairRepresents p v
     → IsFreeWorld (most_retries w) w → IsFreeWorld (most_retries v) v
@@ -488,48 +463,6 @@ agreed_again p w v s t a = record {
           user_window level.its;
     })
 
--- ---- After an outage.
-
-module _ (old new : Pair) (done : Settled) (recovers : Recovers old new done)
-    (some_retries : (w : World) → PairRepresents old w → 1 ≤ most_retries w) (w : World)
-    (s : PairRepresents old w) (a : IsAfterOutage (most_retries w) w) where
-  record Back : Type 0 where
-    rest : done.rest ≡ true
-    few : done.moves ≤ most_own_moves (most_retries w) w
-    agreed : AreAgreed (recovered w)
-
-  back_by : IsReached old.user old.network old.to_user old.to_network → Back
-  back_by x =
-      let v = run Tagged x.moves (new_world x.user x.network) in
-      let c =
-      every_line_comes_back Tagged (most_retries v) (some_retries v x.represent) x.user
-      x.network x.few_of_user x.few_of_network x.some_of_user x.some_of_network x.moves
-      (outage_again old w v s x.represent a) in
-      let h = recovers w s in
-      let i = recovers v x.represent in
-      let own = are_own Tagged (recovery_bound v) v in
-      let few = c.few (recovering Tagged (recovery_bound v) v) own in
-      let none = short_rests Tagged (recovery_bound v) v (omega (arith, few)) in
-      let moves = i.moves in
-      let same : most_own_moves (most_retries v) v ≡ most_own_moves (most_retries w) w =
-      ap (λ l. 3 * l + 6 * most_retries v + 11) (sym (left_again old w v s x.represent))
-      ∙ ap (λ n. 3 * left w + 6 * n + 11) (sym (retries_again old w v s x.represent)) in
-      record {
-        rest = i.rest ∙ ap is_none none;
-        few = omega (arith, moves, few, same);
-        agreed =
-            agreed_again new (recovered w) (recovered v) h.representation i.representation
-            (c.agreed (recovering Tagged (recovery_bound v) v) own
-            (none_rests Tagged (recovered v) none));
-      }
-
-  pub come_back : HaveComeBack (most_own_moves (most_retries w) w) done (recovered w)
-  come_back = record {
-    rest = ∥∥₁_elim old.reached (Bool-set _ _) (λ x. (back_by x).rest);
-    few = ∥∥₁_elim old.reached le_prop (λ x. (back_by x).few);
-    agreed = ∥∥₁_map old.reached (λ x. (back_by x).agreed);
-  }
-
 -- ---- From every world with no busy end.
 
 module _ (old new : Pair) (done : Settled) (recovers : Recovers old new done)
@@ -538,13 +471,13 @@ module _ (old new : Pair) (done : Settled) (recovers : Recovers old new done)
   abbrev most : ℕ
   most = most_moves_from (most_retries w) w
 
-  record BackFromFrames : Type 0 where
+  record Back : Type 0 where
     rest : done.rest ≡ true
     few : done.moves ≤ most
     agreed : AreAgreed (recovered w)
 
-  back_from : IsReached old.user old.network old.to_user old.to_network → BackFromFrames
-  back_from x =
+  back_by : IsReached old.user old.network old.to_user old.to_network → Back
+  back_by x =
       let v = run Tagged x.moves (new_world x.user x.network) in
       let c =
       every_world_comes_back Tagged (most_retries v) (some_retries v x.represent) x.user
@@ -568,9 +501,9 @@ module _ (old new : Pair) (done : Settled) (recovers : Recovers old new done)
             (none_rests Tagged (recovered v) none));
       }
 
-  pub come_back_from : HaveComeBack most done (recovered w)
-  come_back_from = record {
-    rest = ∥∥₁_elim old.reached (Bool-set _ _) (λ x. (back_from x).rest);
-    few = ∥∥₁_elim old.reached le_prop (λ x. (back_from x).few);
-    agreed = ∥∥₁_map old.reached (λ x. (back_from x).agreed);
+  pub come_back : HaveComeBack most done (recovered w)
+  come_back = record {
+    rest = ∥∥₁_elim old.reached (Bool-set _ _) (λ x. (back_by x).rest);
+    few = ∥∥₁_elim old.reached le_prop (λ x. (back_by x).few);
+    agreed = ∥∥₁_map old.reached (λ x. (back_by x).agreed);
   }

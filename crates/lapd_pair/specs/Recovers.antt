@@ -3,10 +3,9 @@ use Rattle.std.specs.Prelude.{◌≡◌, ◌<◌, ◌≤◌, ◌+◌, ◌*◌, �
 use Rattle.lapd_mod128.specs.Counting.{Tagged}
 use Rattle.lapd_pair_laws.specs.Move as world
 use Rattle.lapd_pair_laws.specs.World.{World, happens, run, left}
-use Rattle.lapd_recovery_laws.specs.AfterOutage.{IsAfterOutage}
 use Rattle.lapd_recovery_laws.specs.Agreed.{AreAgreed}
 use Rattle.lapd_recovery_laws.specs.EveryWorld.{IsFreeWorld, most_moves_from}
-use Rattle.lapd_recovery_laws.specs.Own.{first_own, most_own_moves, recovering, tried}
+use Rattle.lapd_recovery_laws.specs.Own.{first_own, recovering, tried}
 use Rattle.lapd_pair.specs.Runs.{PairRepresents}
 use Rattle.lapd_pair.specs.declared.pair.Pair.{Pair}
 use Rattle.lapd_pair.specs.declared.pair_fault.PairFault.{PairFault}
@@ -63,9 +62,3 @@ pub record HaveComeBack (most : ℕ) (done : Settled) (after : World) : Type 0 w
 abbrev pub ComesBack : Pair → Settled → Type 0
 ComesBack old done = (w : World) → PairRepresents old w → IsFreeWorld (most_retries w) w
     → HaveComeBack (most_moves_from (most_retries w) w) done (recovered w)
-
--- if the pair represented a world after an outage, its ends agree again
-abbrev pub ComesBackAfterOutage : Pair → Settled → Type 0
-ComesBackAfterOutage old done = (w : World) → PairRepresents old w
-    → IsAfterOutage (most_retries w) w
-    → HaveComeBack (most_own_moves (most_retries w) w) done (recovered w)

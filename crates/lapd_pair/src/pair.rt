@@ -359,7 +359,7 @@ impl Pair {
     }
 }
 
-/// Recovery of a pair after an outage.
+/// Recovery of a pair.
 impl Pair {
     ghost use Rattle.std.specs.Prelude.{option_map};
     ghost use Rattle.lapd_pair_laws.specs.World.{World};
@@ -367,7 +367,7 @@ impl Pair {
     ghost use Rattle.lapd_recovery_laws.specs.Own as own;
     ghost use Rattle.lapd_pair.specs.Moves.{move_of};
     ghost use Rattle.lapd_pair.specs.Readers.{AreSafeReadings};
-    ghost use Rattle.lapd_pair.specs.Recovers.{Recovers, StopsRecovering, ComesBack, ComesBackAfterOutage, most_retries, recovery_bound};
+    ghost use Rattle.lapd_pair.specs.Recovers.{Recovers, StopsRecovering, ComesBack, most_retries, recovery_bound};
     ghost use Rattle.lapd_pair.specs.Runs.{PairRepresents, IsSafePair};
 
     /// Makes moves until none is possible, as if the line works again and layer 3 requests nothing.
@@ -378,9 +378,9 @@ impl Pair {
     ///
     /// Suppose that no end in state 7 or 8 is own busy at the start. Then it makes at most 2 moves
     /// for each frame in transit, 3 for each message of [`Pair::left`], 6 for each retransmission
-    /// that the greater N200 allows, and 15 more, or 11 more if no frame is in transit. No further
-    /// move is possible, and both ends agree: both are in state 4, or both in state 7 with equal
-    /// numbers. No message is left: each was received and acknowledged, or dropped.
+    /// that the greater N200 allows, and 15 more. No further move is possible, and both ends agree:
+    /// both are in state 4, or both in state 7 with equal numbers. No message is left: each was
+    /// received and acknowledged, or dropped.
     ///
     /// It never makes more than 16 moves besides those for frames, messages and retransmissions. If
     /// another move is then possible, `rest` is false, for example with a busy end.
@@ -392,8 +392,7 @@ impl Pair {
     pub fn recover(&mut self) -> Result<Settled, PairFault>
         ensures ok { IfOk result (λ done. Recovers self.old self.new done) }
         ensures err { IfErr result (λ fault. StopsRecovering self.old self.new fault) }
-        ensures back { IfOk result (λ done. ComesBack self.old done) }
-        ensures agreed { IfOk result (λ done. ComesBackAfterOutage self.old done) }
+        ensures agreed { IfOk result (λ done. ComesBack self.old done) }
         ensures safe { ∥ IsSafePair self.new ∥₁ }
         ensures readers { AreSafeReadings self.new }
     {

@@ -2,7 +2,7 @@
 use Rattle.std.proofs.Common.{◌≡◌, ◌⊎◌, inl, inr, ℕ, zero, suc, ◌+◌, ◌*◌, ◌-◌, ◌≤◌, ◌==◌, not, Bool, true, false, List, [], ◌∷◌, length, refl, sym, ap, subst, ◌∙◌, arith}
 use Rattle.lapd_frame.specs.declared.Side.{Side}
 use Rattle.lapd_frame.specs.declared.Side.TheVariants as side
-use Rattle.lapd_mod128.specs.Counting.{Reading, Whole, Tagged}
+use Rattle.lapd_mod128.specs.Counting.{Whole}
 use Rattle.lapd_supervision.specs.Tags.{tag_variables}
 use Rattle.lapd_link_definition.specs.declared.state.State.{State}
 use Rattle.lapd_link_definition.specs.declared.state.State.TheVariants.{TeiAssigned, AwaitingEstablishment, AwaitingRelease, MultipleFrameEstablished, TimerRecovery}
@@ -10,46 +10,33 @@ use Rattle.lapd_link_definition.specs.EndOfStep.{is_7_or_8}
 use Rattle.lapd_link_definition.specs.End.{End, unsent}
 use Rattle.lapd_link_definition.specs.RunningTimers.{HasTimersOfState}
 use Rattle.lapd_link_definition.specs.Parameters.{Parameters}
-use Rattle.lapd_link_definition.specs.Sound.{AreOutstanding, AreUnsent, AreAwaiting, IsSoundIn, IsSound}
 use Rattle.lapd_link_definition.specs.Tagging.{tag_end}
-use Rattle.lapd_pair_laws.specs.Consistent.{AreSettled, IsConsistentWorld}
+use Rattle.lapd_pair_laws.specs.Consistent.{IsConsistentWorld}
 use Rattle.lapd_pair_laws.specs.Invariant.{IsInvariant}
-use Rattle.lapd_pair_laws.specs.Line.{Flight}
 use Rattle.lapd_pair_laws.specs.Move.{PairEvent, Expire203, Move, Station}
 use Rattle.lapd_pair_laws.specs.Parties.{party}
-use Rattle.lapd_pair_laws.specs.Tagged.{tag_world}
-use Rattle.lapd_pair_laws.specs.Timed.{AreSettledEnds}
-use Rattle.lapd_pair_laws.specs.World.{World, swapped, view_of, world_after, happens, new_world, run, left, left_of}
-use Rattle.lapd_pair_laws.specs.Settle.{most_moves}
-use Rattle.lapd_pair_laws.proofs.Consistency.{new_world_consistent, run_consistent}
-use Rattle.lapd_pair_laws.proofs.Drains.{Drains}
+use Rattle.lapd_pair_laws.specs.World.{World, swapped, view_of, world_after, happens, run, left}
+use Rattle.lapd_pair_laws.proofs.Consistency.{run_consistent}
 use Rattle.lapd_pair_laws.proofs.EndsPreserved.{stays_sound}
-use Rattle.lapd_pair_laws.proofs.Reached.{reached_tags}
-use Rattle.lapd_pair_laws.proofs.Settled.{left_settled}
-use Rattle.lapd_pair_laws.proofs.SettledEnds.{new_settles, run_settles, move_settles}
+use Rattle.lapd_pair_laws.proofs.SettledEnds.{move_settles}
 use Rattle.lapd_pair_laws.proofs.Settles.{IsStill}
 use Rattle.lapd_pair_laws.proofs.Stepping.{user_move, network_move}
-use Rattle.lapd_pair_laws.proofs.TaggedMoves.{left_on_tags}
-use Rattle.lapd_pair_laws.proofs.Whole.{each_move_preserves, each_run_preserves}
-use Rattle.lapd_pair_laws.proofs.Worlds.{new_holds}
-use Rattle.lapd_pair_laws.proofs.DrainsAfterRuns.{unmapped}
-use Rattle.lapd_recovery_laws.specs.AfterOutage.{IsAfterOutage, IsKept}
-use Rattle.lapd_recovery_laws.specs.Agreed.{AreAgreed, ComesBack}
-use Rattle.lapd_recovery_laws.specs.Own.{IsOwn, AreOwn, Rests, IsFree, most_own_moves}
+use Rattle.lapd_pair_laws.proofs.Whole.{each_move_preserves}
+use Rattle.lapd_recovery_laws.proofs.OpenLine.{drained_agree}
+use Rattle.lapd_recovery_laws.specs.WantedLine.{IsKept, AreWanting}
+use Rattle.lapd_recovery_laws.specs.Agreed.{AreAgreed}
+use Rattle.lapd_recovery_laws.specs.Own.{IsOwn, AreOwn, Rests, IsFree}
 use Rattle.lapd_recovery_laws.specs.Timers.{HaveTimersOfStates}
-use Rattle.lapd_recovery_laws.specs.WantedLine.{IsWanting, AreWanting}
-use Rattle.lapd_recovery_laws.proofs.AnyOrder.{Draining, rests_still, rests_drained}
-use Rattle.lapd_recovery_laws.proofs.Cleared.{AreClearIn5, clear_after_move, clear_after_run, new_is_clear}
-use Rattle.lapd_recovery_laws.proofs.PeerReleased.{expires_203_at, due_203, still_swapped, own_203_swapped}
-use Rattle.lapd_recovery_laws.proofs.Lost.{at, with_final, UserLost}
+use Rattle.lapd_recovery_laws.proofs.AnyOrder.{rests_still, rests_drained}
+use Rattle.lapd_recovery_laws.proofs.Cleared.{clear_after_move}
+use Rattle.lapd_recovery_laws.proofs.OwnBySide.{expires_203_at, due_203, still_swapped, own_203_swapped}
+use Rattle.lapd_recovery_laws.proofs.Lost.{at}
 use Rattle.lapd_recovery_laws.proofs.LostMoves.{moved_user, moved_network}
-use Rattle.lapd_recovery_laws.proofs.OpenLine.{tries_so, draining_begins, up_so}
 use Rattle.lapd_recovery_laws.proofs.Outage.{coming_moves}
 use Rattle.lapd_recovery_laws.proofs.OutageWorlds.{Facts}
-use Rattle.lapd_recovery_laws.proofs.OwnOnTags.{are_own_by_tags, rests_by_tags, ran_on_tags, agreed_on_tags}
 use Rattle.lapd_recovery_laws.proofs.Releases.{empty_in_4}
-use Rattle.lapd_recovery_laws.proofs.Situations.{tries, attempt_in, attempt, gone_in, gone, again_in, again, finds_in, finds, polls_in, polls, MayTry, Establishing, Closed, Half, alone_4, alone_5, alone_6, asks_5, asks_6, accepted, crossed, refused, parting, closed, not_both, false_if, Coming}
-use Rattle.lapd_recovery_laws.proofs.TimersOfRuns.{new_has_timers, timers_after_move, timers_after_run}
+use Rattle.lapd_recovery_laws.proofs.Situations.{tries, attempt_in, attempt, gone_in, gone, again_in, again, finds_in, finds, polls_in, polls, Closed, Half, alone_4, alone_5, alone_6, asks_5, asks_6, accepted, crossed, refused, parting, closed, Coming}
+use Rattle.lapd_recovery_laws.proofs.TimersOfRuns.{timers_after_move}
 use Rattle.lapd_recovery_laws.proofs.Transitions.{timers_in}
 
 -- ---- Properties that each move keeps.
@@ -90,38 +77,36 @@ facts_after N move w f =
       few_network = subst (λ (p : Parameters). p.n200 ≤ N) (sym same.1) f.few_network;
     }
 
-pub record Reaches (up : Bool) (N n : ℕ) (moves : List Move) (now : World) : Type 0 where
-  pub few : length moves ≤ n
-  pub arriving : Coming N up (n - length moves) now
-  pub facts : Facts N now
+record Reaches (N n : ℕ) (moves : List Move) (now : World) : Type 0 where
+  few : length moves ≤ n
+  arriving : Coming N (n - length moves) now
+  facts : Facts N now
 
-pub own_moves_reach : (up : Bool) (N : ℕ) → 1 ≤ N → (n : ℕ) (w : World) (moves : List Move)
-    → Coming N up n w → Facts N w → AreOwn Whole moves w → Reaches up N n moves (run Whole moves w)
-own_moves_reach up N some n w [] c f own =
+own_moves_reach : (N : ℕ) → 1 ≤ N → (n : ℕ) (w : World) (moves : List Move) → Coming N n w
+    → Facts N w → AreOwn Whole moves w → Reaches N n moves (run Whole moves w)
+own_moves_reach N some n w [] c f own =
     let same : n ≡ n - 0 = omega arith in
-    record { few = omega arith; arriving = subst (λ m. Coming N up m w) same c; facts = f }
-own_moves_reach up N some n w (move ∷ moves) c f own =
-    let one = coming_moves N some up n move.side move.event w c f own.0 in
+    record { few = omega arith; arriving = subst (λ m. Coming N m w) same c; facts = f }
+own_moves_reach N some n w (move ∷ moves) c f own =
+    let one = coming_moves N some n move.side move.event w c f own.0 in
     let now = world_after w (happens Whole move w) in
     let rest =
-    own_moves_reach up N some (n - 1) now moves one.arriving (facts_after N move w f)
-    own.1 in
+    own_moves_reach N some (n - 1) now moves one.arriving (facts_after N move w f) own.1 in
     let fewer : n - 1 - length moves ≡ n - length (move ∷ moves) = omega arith in
     record {
       few = let some_left = one.some in let few = rest.few in omega (arith, some_left, few);
-      arriving = subst (λ m. Coming N up m (run Whole moves now)) fewer rest.arriving;
+      arriving = subst (λ m. Coming N m (run Whole moves now)) fewer rest.arriving;
       facts = rest.facts;
     }
 
 -- ---- Where no own move is possible, the ends agree.
 
-half_rests : (up : Bool) (N n : ℕ) (w : World) → Half N up n w → HaveTimersOfStates w → IsStill w
-    → (IsOwn Whole (user_move Expire203) w → ⊥)
-    → Closed N n w × (up ≡ true → Establishing w.user.end w.network.end)
-half_rests up N n w (alone_4 s) have still rests = by_state w.user.end.state refl s.open_state
+half_rests : (N n : ℕ) (w : World) → Half N n w → HaveTimersOfStates w → IsStill w
+    → (IsOwn Whole (user_move Expire203) w → ⊥) → Closed N n w
+half_rests N n w (alone_4 s) have still rests = by_state w.user.end.state refl s.open_state
   where
     by_state : (state : State) → w.user.end.state ≡ state → is_7_or_8 state ≡ true
-        → Closed N n w × (up ≡ true → Establishing w.user.end w.network.end)
+        → Closed N n w
     by_state MultipleFrameEstablished is o =
         let on : w.user.end.t203 ≡ true =
         (timers_in MultipleFrameEstablished w.user.end have.user is).0
@@ -135,25 +120,25 @@ half_rests up N n w (alone_4 s) have still rests = by_state w.user.end.state ref
     by_state TeiAssigned is o = cc
     by_state AwaitingEstablishment is o = cc
     by_state AwaitingRelease is o = cc
-half_rests up N n w (alone_5 s k) have still rests =
+half_rests N n w (alone_5 s) have still rests =
     let on = (timers_in AwaitingEstablishment w.network.end have.network s.network).0 in
     let off = still.network in cc
-half_rests up N n w (alone_6 s k) have still rests =
+half_rests N n w (alone_6 s) have still rests =
     let on = (timers_in AwaitingRelease w.network.end have.network s.network).0 in
     let off = still.network in cc
-half_rests up N n w (asks_5 s k) have still rests =
+half_rests N n w (asks_5 s) have still rests =
     let none = still.to_network in let some = s.to_network in cc
-half_rests up N n w (asks_6 s k) have still rests =
+half_rests N n w (asks_6 s) have still rests =
     let none = still.to_network in let some = s.to_network in cc
-half_rests up N n w (accepted s k) have still rests =
+half_rests N n w (accepted s) have still rests =
     let none = still.to_user in let some = s.to_user in cc
-half_rests up N n w (crossed s k) have still rests =
+half_rests N n w (crossed s) have still rests =
     let none = still.to_user in let some = s.to_user in cc
-half_rests up N n w (refused s k) have still rests =
+half_rests N n w (refused s) have still rests =
     let none = still.to_user in let some = s.to_user in cc
-half_rests up N n w (parting s k) have still rests =
+half_rests N n w (parting s) have still rests =
     let on = (timers_in AwaitingRelease w.user.end have.user s.user).0 in let off = still.user in cc
-half_rests up N n w (closed s k) have still rests = (s, k)
+half_rests N n w (closed s) have still rests = s
 
 in_state_4 : (e : End) → HasTimersOfState e → is_7_or_8 e.state ≡ false → e.t200 ≡ false
     → e.state ≡ TeiAssigned
@@ -188,66 +173,28 @@ closed_agree w i preserved have still user network =
       ends = inl (record { mine = mine; its = its });
     }
 
-agreed_at_rest : (up : Bool) (N n : ℕ) (w : World) → Coming N up n w → Facts N w
-    → IsConsistentWorld Whole w → IsStill w → Rests Whole w → AreAgreed w
-agreed_at_rest up N n w (inl d) f preserved still rests = (up_so n
-    w w.user w.network w.to_user w.to_network preserved (rests_drained true n w d f.have still)
-    still (record { user = refl; network = refl })).agreed
-agreed_at_rest up N n w (inr (inl l)) f preserved still rests =
-    let s = half_rests up N n w l f.have still (λ own. rests (user_move Expire203) own) in
-    closed_agree w f.holds preserved f.have still s.0.user s.0.network
-agreed_at_rest up N n w (inr (inr l)) f preserved still rests =
-    let s =
-    half_rests up N n (swapped w) l
-    (record { user = f.have.network; network = f.have.user }) (still_swapped w still)
-    (λ own. rests (network_move Expire203) (own_203_swapped w own)) in
-    closed_agree w f.holds preserved f.have still s.0.network s.0.user
+pub agreed_at_rest : (N n : ℕ) (w : World) → Coming N n w → Facts N w → IsConsistentWorld Whole w
+    → Rests Whole w → AreAgreed w
+agreed_at_rest N n w c f preserved rests = by_coming c
+  where
+    still : IsStill w
+    still = rests_still w.user w.network w.to_user w.to_network rests
+
+    by_coming : Coming N n w → AreAgreed w
+    by_coming (inl d) =
+        drained_agree n w.user w.network w.to_user w.to_network preserved
+        (rests_drained true n w d f.have still) still
+    by_coming (inr (inl l)) =
+        let s = half_rests N n w l f.have still (λ own. rests (user_move Expire203) own) in
+        closed_agree w f.holds preserved f.have still s.user s.network
+    by_coming (inr (inr l)) =
+        let s =
+        half_rests N n (swapped w) l
+        (record { user = f.have.network; network = f.have.user }) (still_swapped w still)
+        (λ own. rests (network_move Expire203) (own_203_swapped w own)) in
+        closed_agree w f.holds preserved f.have still s.network s.user
 
 -- ---- The start.
-
--- unsent messages are left
-unsent_sound : (e : End) → IsSound Whole e → unsent e ≤ length e.given - e.first
-unsent_sound e sound = by_state e.state refl
-  where
-    by_unsent : AreUnsent e.first e.next (length e.given) → unsent e ≤ length e.given - e.first
-    by_unsent a = let places = a.places in omega (arith, places)
-
-    by_outstanding : AreOutstanding Whole e.first e.next (length e.given) e.window.va e.window.vs
-        → unsent e ≤ length e.given - e.first
-    by_outstanding a = let places = a.places in omega (arith, places)
-
-    by_awaiting : (asked leaving : Bool)
-        → AreAwaiting Whole asked leaving e.first e.next (length e.given) e.window.va e.window.vs
-        → unsent e ≤ length e.given - e.first
-    by_awaiting true leaving a = by_unsent a
-    by_awaiting false true a = by_unsent a
-    by_awaiting false false a = by_outstanding a
-
-    by_state : (state : State) → e.state ≡ state → unsent e ≤ length e.given - e.first
-    by_state TeiAssigned is = by_unsent (subst (λ st. IsSoundIn Whole st e) is sound)
-    by_state AwaitingEstablishment is =
-        by_awaiting e.layer3_initiated e.release_pending
-        (subst (λ st. IsSoundIn Whole st e) is sound)
-    by_state AwaitingRelease is = by_unsent (subst (λ st. IsSoundIn Whole st e) is sound)
-    by_state MultipleFrameEstablished is =
-        by_outstanding (subst (λ st. IsSoundIn Whole st e) is sound)
-    by_state TimerRecovery is = by_outstanding (subst (λ st. IsSoundIn Whole st e) is sound)
-
-user_left : (w : World) → IsInvariant w → AreSettled w.user.history
-    → unsent w.user.end ≤ left_of w.user
-user_left w i settled =
-    let all = left_settled w.user settled in
-    let few = unsent_sound w.user.end i.user_sound in
-    let passed : w.user.history.passed ≡ w.user.end.first = i.both.mine.passed in
-    omega (arith, all, few, passed)
-
-network_left : (w : World) → IsInvariant w → AreSettled w.network.history
-    → unsent w.network.end ≤ left_of w.network
-network_left w i settled =
-    let all = left_settled w.network settled in
-    let few = unsent_sound w.network.end i.network_sound in
-    let passed : w.network.history.passed ≡ w.network.end.first = i.both.its.passed in
-    omega (arith, all, few, passed)
 
 -- bounds of the weights
 attempt_few : (state : State) (tried leaving : Bool) → attempt_in state tried leaving ≤ 5
@@ -271,9 +218,9 @@ again_or_none N true zero = inl refl
 again_or_none N true (suc u) = inr (refl, omega arith)
 again_or_none N false u = inl refl
 
-finds_few : (N : ℕ) (state : State) (left : ℕ) → left ≤ N → finds_in N state left ≤ 2 * N + 5
-finds_few N TimerRecovery left few = omega (arith, few)
-finds_few N state left few = omega arith
+pub finds_few : (state : State) (all left : ℕ) → left ≤ all → finds_in state all left ≤ 2 * all + 5
+finds_few TimerRecovery all left few = omega (arith, few)
+finds_few state all left few = omega arith
 
 polls_few : (N : ℕ) (state : State) (t200 : Bool) (left : ℕ) → left ≤ N
     → polls_in N state t200 left ≤ 2 * N + 3
@@ -291,8 +238,12 @@ module _ (N : ℕ) (some : 1 ≤ N) (x y : Station) (p q : ℕ) (mine : unsent x
   abbrev n : ℕ
   n = 3 * (p + q) + 6 * N + 11
 
-  finds_x : finds N x.end ≤ 2 * N + 5
-  finds_x = finds_few N x.end.state (x.end.parameters.n200 - x.end.rc) (omega (arith, few_x))
+  finds_x : finds x.end ≤ 2 * N + 5
+  finds_x =
+      let all =
+      finds_few x.end.state x.end.parameters.n200 (x.end.parameters.n200 - x.end.rc)
+      (omega arith) in
+      omega (arith, all, few_x)
 
   polls_x : polls N x.end ≤ 2 * N + 3
   polls_x =
@@ -325,11 +276,10 @@ module _ (N : ℕ) (some : 1 ≤ N) (x y : Station) (p q : ℕ) (mine : unsent x
           let g = last.1 in
           let b = sends.0 in let u = sends.1 in omega (arith, a, g, b, u, mine, its, polls_x, some)
 
-  pub alone_begins : (up : Bool) → is_7_or_8 x.end.state ≡ true → is_7_or_8 y.end.state ≡ false
-      → (up ≡ true → IsKept y.end) → Half N up n w
-  alone_begins up opened c k = by_state y.end.state refl c
+  alone_begins : is_7_or_8 x.end.state ≡ true → is_7_or_8 y.end.state ≡ false → Half N n w
+  alone_begins opened c = by_state y.end.state refl c
     where
-      by_state : (state : State) → y.end.state ≡ state → is_7_or_8 state ≡ false → Half N up n w
+      by_state : (state : State) → y.end.state ≡ state → is_7_or_8 state ≡ false → Half N n w
       by_state TeiAssigned is c =
           alone_4 (record {
             open_state = opened;
@@ -346,7 +296,6 @@ module _ (N : ℕ) (some : 1 ≤ N) (x y : Station) (p q : ℕ) (mine : unsent x
             ignored = tt;
             most = let le = weight_5 in omega (arith, le);
           })
-          (λ up_is. (k up_is).none_pending is)
       by_state AwaitingRelease is c =
           alone_6 (record {
             open_state = opened;
@@ -355,7 +304,6 @@ module _ (N : ℕ) (some : 1 ≤ N) (x y : Station) (p q : ℕ) (mine : unsent x
             ignored = tt;
             most = omega (arith, mine, its, finds_x, attempt_y, some);
           })
-          (false_if up (λ up_is. (k up_is).not_releasing is))
       by_state MultipleFrameEstablished is c = cc
       by_state TimerRecovery is c = cc
 
@@ -424,9 +372,8 @@ module _ (N : ℕ) (some : 1 ≤ N) (x y : Station) (p q : ℕ) (mine : unsent x
         | inr last ↦ inr (same ∙ last.1, let a = last.0 in omega (arith, a, attempt_x))
       ]
 
-  pub closed_begins : (up : Bool) → is_7_or_8 x.end.state ≡ false → is_7_or_8 y.end.state ≡ false
-      → (up ≡ true → Establishing x.end y.end) → Half N up n w
-  closed_begins up c d k =
+  closed_begins : is_7_or_8 x.end.state ≡ false → is_7_or_8 y.end.state ≡ false → Half N n w
+  closed_begins c d =
       let e = extra in
       closed (record {
         user = c;
@@ -437,7 +384,7 @@ module _ (N : ℕ) (some : 1 ≤ N) (x y : Station) (p q : ℕ) (mine : unsent x
         leaves = e.leaves;
         both = λ in_5 its_in_5. (e.sends_x, e.sends_y, e.leaves_x, e.leaves_y);
         most = by_both e.sends e.leaves e.either_sends e.either_leaves;
-      }) k
+      })
     where
       by_both : (sends leaves : ℕ)
           → (sends ≡ 0) ⊎ ((sends ≡ 2 * N + 3) × (1 ≤ unsent x.end + unsent y.end))
@@ -454,78 +401,12 @@ module _ (N : ℕ) (some : 1 ≤ N) (x y : Station) (p q : ℕ) (mine : unsent x
           let u = again_.1 in
           let l = last.0 in let a = last.1 in omega (arith, s, u, l, a, mine, its, some)
 
--- ---- The theorem, on whole numbers.
-
--- more work may remain
-drains_more : (n m : ℕ) (w : World) → n ≤ m → Drains n w → Drains m w
-drains_more n m w less d =
-    let s = d.sees in
-    let f = s.flow in
-    record {
-      holds = d.holds;
-      ends_settled = d.ends_settled;
-      sees = record {
-        flow = record {
-          a = f.a;
-          b = f.b;
-          mine = f.mine;
-          its = f.its;
-          most = let le = f.most in omega (arith, le, less);
-        };
-        idle = s.idle;
-        its_idle = s.its_idle;
-        proceeding = s.proceeding;
-        arriving = s.arriving;
-      };
-    }
-
-lost_more : (n m : ℕ) (w : World) → n ≤ m → UserLost true n w → UserLost true m w
-lost_more n m w less l = record {
-  holds = l.holds;
-  in_8 = l.in_8;
-  tries = l.tries;
-  two = let two = l.two in omega (arith, two, less);
-  drains = drains_more (n - 2) (m - 2) (with_final w) (omega (arith, less)) l.drains;
-}
-
-weaker : (n m : ℕ) (w : World) → n ≤ m → Draining true n w → Draining true m w
-weaker n m w less (inl d) = inl (drains_more n m w less d)
-weaker n m w less (inr (inl l)) = inr (inl (lost_more n m w less l))
-weaker n m w less (inr (inr (inl l))) = inr (inr (inl (lost_more n m (swapped w) less l)))
-weaker n m w less (inr (inr (inr l))) = inr (inr (inr (record {
-  to_user = l.to_user;
-  to_network = l.to_network;
-  holds = l.holds;
-  ends_settled = l.ends_settled;
-  user_in_8 = l.user_in_8;
-  network_in_8 = l.network_in_8;
-  user_tries = l.user_tries;
-  network_tries = l.network_tries;
-  user_idle = l.user_idle;
-  network_idle = l.network_idle;
-  most = let le = l.most in omega (arith, le, less);
-})))
-
--- both ends are closed, and one wants the link
-establishing : (x y : End) → is_7_or_8 x.state ≡ false → is_7_or_8 y.state ≡ false → AreWanting x y
-    → Establishing x y
-establishing x y c d w = record { mine = w.mine; its = w.its; either = by_either w.either }
-  where
-    may_try : (e : End) → is_7_or_8 e.state ≡ false → IsWanting e → MayTry e
-    may_try e c (inl o) = absurd (not_both (is_7_or_8 e.state) c o)
-    may_try e c (inr tries) = (tries.0, tries_so e.rc e.parameters.n200 tries.1)
-
-    by_either : IsWanting x ⊎ IsWanting y → MayTry x ⊎ MayTry y
-    by_either (inl w) = inl (may_try x c w)
-    by_either (inr w) = inr (may_try y d w)
-
 -- both ends are open, or one is closed; p and q are at least as many messages as are unsent
 pub half_begins : {C : Type 0} (N : ℕ) → 1 ≤ N → (x y : Station) (p q : ℕ) → unsent x.end ≤ p
-    → unsent y.end ≤ q → x.end.parameters.n200 ≤ N → y.end.parameters.n200 ≤ N → (up : Bool)
-    → (up ≡ true → AreWanting x.end y.end)
+    → unsent y.end ≤ q → x.end.parameters.n200 ≤ N → y.end.parameters.n200 ≤ N
     → (is_7_or_8 x.end.state ≡ true → is_7_or_8 y.end.state ≡ true → C)
-    → (Coming N up (3 * (p + q) + 6 * N + 11) (at x y [] []) → C) → C
-half_begins {C = C} N some x y p q mine its few_x few_y up k both half =
+    → (Coming N (3 * (p + q) + 6 * N + 11) (at x y [] []) → C) → C
+half_begins {C = C} N some x y p q mine its few_x few_y both half =
     by_open (is_7_or_8 x.end.state) (is_7_or_8 y.end.state) refl refl
   where
     turned_bound : 3 * (q + p) + 6 * N + 11 ≡ 3 * (p + q) + 6 * N + 11
@@ -534,38 +415,12 @@ half_begins {C = C} N some x y p q mine its few_x few_y up k both half =
     by_open : (a b : Bool) → is_7_or_8 x.end.state ≡ a → is_7_or_8 y.end.state ≡ b → C
     by_open true true o p = both o p
     by_open true false o c =
-        half (inr (inl (alone_begins N some x y p q mine its few_x few_y up o c
-        (λ wanted. (k wanted).its))))
+        half (inr (inl (alone_begins N some x y p q mine its few_x few_y o c)))
     by_open false true c o =
-        half (inr (inr (subst (λ m. Half N up m (swapped (at x y [] []))) turned_bound
-        (alone_begins N some y x q p its mine few_y few_x up o c
-        (λ wanted. (k wanted).mine)))))
+        half (inr (inr (subst (λ m. Half N m (swapped (at x y [] []))) turned_bound
+        (alone_begins N some y x q p its mine few_y few_x o c))))
     by_open false false c d =
-        half (inr (inl (closed_begins N some x y p q mine its few_x few_y up c d
-        (λ wanted. establishing x.end y.end c d (k wanted)))))
-
-both_begin : (N : ℕ) → 1 ≤ N → (x y : Station) → IsInvariant (at x y [] [])
-    → IsConsistentWorld Whole (at x y [] []) → AreSettledEnds (at x y [] []) → IsFree x.end
-    → IsFree y.end → x.end.parameters.n200 ≤ N → y.end.parameters.n200 ≤ N
-    → Coming N false (most_own_moves N (at x y [] [])) (at x y [] [])
-both_begin N some x y i preserved settled x_free y_free few_x few_y =
-    let w = at x y [] [] in
-    half_begins N some x y (left_of x) (left_of y) (user_left w i preserved.user.settled)
-    (network_left w i preserved.network.settled) few_x few_y false (λ no. cc)
-    (λ o p. inl (weaker (most_moves w) (most_own_moves N w) w (omega arith)
-    (draining_begins x y i settled preserved.user.settled preserved.network.settled true
-    o p (x_free o) (y_free p) (λ _. refl) (λ _. refl))))
-    (λ c. c)
-
-begins : (N : ℕ) → 1 ≤ N → (x y : Station) (to_user to_network : List Flight)
-    → IsInvariant (at x y to_user to_network) → IsConsistentWorld Whole (at x y to_user to_network)
-    → AreSettledEnds (at x y to_user to_network) → IsAfterOutage N (at x y to_user to_network)
-    → Coming N false (most_own_moves N (at x y to_user to_network)) (at x y to_user to_network)
-begins N some x y [] [] i preserved settled a =
-    both_begin N some x y i preserved settled a.user_free a.network_free a.user_retries
-    a.network_retries
-begins N some x y (f ∷ fs) to_network i preserved settled a = let none = a.to_user in cc
-begins N some x y [] (f ∷ fs) i preserved settled a = let none = a.to_network in cc
+        half (inr (inl (closed_begins N some x y p q mine its few_x few_y c d)))
 
 -- own moves are at most the weight of the start, and lead to ends that agree
 pub record Returns (n : ℕ) (w : World) : Type 0 where
@@ -573,117 +428,21 @@ pub record Returns (n : ℕ) (w : World) : Type 0 where
   pub agreed : (moves : List Move) → AreOwn Whole moves w → Rests Whole (run Whole moves w)
       → AreAgreed (run Whole moves w)
 
-pub returns_from : (N : ℕ) → 1 ≤ N → (n : ℕ) (w : World) → Coming N false n w → Facts N w
+pub returns_from : (N : ℕ) → 1 ≤ N → (n : ℕ) (w : World) → Coming N n w → Facts N w
     → IsConsistentWorld Whole w → Returns n w
 returns_from N some n w c f preserved = record {
-  few = λ moves own. (own_moves_reach false N some n w moves c f own).few;
+  few = λ moves own. (own_moves_reach N some n w moves c f own).few;
   agreed = λ moves own rests.
-      let now = run Whole moves w in
-      let reached = own_moves_reach false N some n w moves c f own in
-      let still = rests_still now.user now.network now.to_user now.to_network rests in
-      agreed_at_rest false N (n - length moves) now reached.arriving reached.facts
-      (run_consistent Whole moves w preserved) still rests;
+      let reached = own_moves_reach N some n w moves c f own in
+      agreed_at_rest N (n - length moves) (run Whole moves w) reached.arriving reached.facts
+      (run_consistent Whole moves w preserved) rests;
 }
 
-line_comes_back : (N : ℕ) → 1 ≤ N → (w : World) → IsInvariant w → IsConsistentWorld Whole w
-    → AreSettledEnds w → HaveTimersOfStates w → AreClearIn5 w → IsAfterOutage N w
-    → ComesBack Whole N w
-line_comes_back N some w i preserved settled have clear a =
-    let n = most_own_moves N w in
-    let c = begins N some w.user w.network w.to_user w.to_network i preserved settled a in
-    let f : Facts N w =
-    record {
-      holds = i;
-      settled = settled;
-      have = have;
-      clear = clear;
-      few_user = a.user_retries;
-      few_network = a.network_retries;
-    } in
-    let back = returns_from N some n w c f preserved in
-    record {
-      few = λ moves own. back.few moves own;
-      agreed = λ moves own rests. back.agreed moves own rests;
-    }
-
--- ---- After every run, on whole numbers and on tags.
-
-comes_back_on_tags : (N : ℕ) (w : World) → IsInvariant w → IsConsistentWorld Whole w
-    → ComesBack Whole N w → ComesBack Tagged N (tag_world w)
-comes_back_on_tags N w i preserved c = record {
-  few = λ moves own.
-      let most : most_own_moves N (tag_world w) ≡ most_own_moves N w =
-      ap (λ l. 3 * l + 6 * N + 11) (left_on_tags w) in
-      let few = c.few moves (are_own_by_tags moves w i preserved own) in
-      omega (arith, most, few);
-  agreed = λ moves own rests.
-      let now = run Whole moves w in
-      let same : run Tagged moves (tag_world w) ≡ tag_world now = ran_on_tags moves w i preserved in
-      let still : Rests Whole now =
-      rests_by_tags now (each_run_preserves moves w i)
-      (run_consistent Whole moves w preserved) (subst (λ v. Rests Tagged v) same rests) in
-      subst AreAgreed (sym same)
-      (agreed_on_tags now (c.agreed moves (are_own_by_tags moves w i preserved own) still));
-}
+-- ---- On tags.
 
 pub free_by_tags : (e : End) → IsFree (tag_end e) → IsFree e
 unfolding tag_variables
 free_by_tags e free = free
-
-after_outage_by_tags : (N : ℕ) (w : World) → IsAfterOutage N (tag_world w) → IsAfterOutage N w
-after_outage_by_tags N w a = record {
-  to_user = unmapped w.to_user a.to_user;
-  to_network = unmapped w.to_network a.to_network;
-  user_free = free_by_tags w.user.end a.user_free;
-  network_free = free_by_tags w.network.end a.network_free;
-  user_retries = a.user_retries;
-  network_retries = a.network_retries;
-}
-
-module _ (N : ℕ) (some : 1 ≤ N) (user network : Parameters) (user_small : user.k ≤ 127)
-    (network_small : network.k ≤ 127) (user_some : 1 ≤ user.k) (network_some : 1 ≤ network.k)
-    (moves : List Move) where
-  abbrev start : World
-  start = new_world user network
-
-  abbrev reached : World
-  reached = run Whole moves start
-
-  holds : IsInvariant reached
-  holds = each_run_preserves moves start (new_holds user network user_small network_small)
-
-  preserved : IsConsistentWorld Whole reached
-  preserved =
-      run_consistent Whole moves start
-      (new_world_consistent Whole user network user_small network_small)
-
-  back_whole : IsAfterOutage N reached → ComesBack Whole N reached
-  back_whole a =
-      let c =
-      line_comes_back N some reached holds preserved
-      (run_settles moves start (new_settles user network user_some network_some))
-      (timers_after_run moves start (new_has_timers user network))
-      (clear_after_run moves start (new_is_clear user network)) a in
-      c
-
-  comes_back_by : (r : Reading) → IsAfterOutage N (run r moves (new_world user network))
-      → ComesBack r N (run r moves (new_world user network))
-  comes_back_by Whole a = back_whole a
-  comes_back_by Tagged a =
-      let same : run Tagged moves (new_world user network) ≡ tag_world reached =
-      reached_tags user network user_small network_small moves in
-      subst (λ w. ComesBack Tagged N w) (sym same)
-      (comes_back_on_tags N reached holds preserved
-      (back_whole (after_outage_by_tags N reached (subst (λ w. IsAfterOutage N w) same a))))
-
-pub every_line_comes_back : (r : Reading) (n200 : ℕ) → 1 ≤ n200 → (user network : Parameters)
-    → user.k ≤ 127 → network.k ≤ 127 → 1 ≤ user.k → 1 ≤ network.k → (moves : List Move)
-    → IsAfterOutage n200 (run r moves (new_world user network))
-    → ComesBack r n200 (run r moves (new_world user network))
-every_line_comes_back r n200 some user network u n us ns moves a =
-    comes_back_by n200 some user network u n us ns moves r a
-
--- ---- A link that one end wants and nobody releases comes up.
 
 kept_by_tags : (e : End) → IsKept (tag_end e) → IsKept e
 kept_by_tags e k = record { not_releasing = k.not_releasing; none_pending = k.none_pending }

@@ -1,5 +1,5 @@
 -- The own moves of an open line, in any order: each reduces the remaining work.
-use Rattle.std.proofs.Common.{◌≡◌, ◌⊎◌, inl, inr, ℕ, ◌-◌, ◌≤◌, nat_lt, not, ◌||◌, Bool, true, false, List, [], ◌∷◌, length, Result, Ok, Err, is_ok, refl, sym, subst, ◌∙◌, arith}
+use Rattle.std.proofs.Common.{◌≡◌, ◌⊎◌, inl, inr, ℕ, ◌-◌, ◌≤◌, nat_lt, not, ◌||◌, Bool, true, false, List, [], ◌∷◌, Result, Ok, Err, is_ok, refl, sym, subst, ◌∙◌, arith}
 use Rattle.lapd_frame.specs.declared.Side.{Side}
 use Rattle.lapd_frame.specs.declared.Side.TheVariants as side
 use Rattle.lapd_mod128.specs.Counting.{Whole}
@@ -10,19 +10,18 @@ use Rattle.lapd_link_definition.specs.Table.{step}
 use Rattle.lapd_link_definition.proofs.Sending.{both_true}
 use Rattle.lapd_pair_laws.specs.Line.{Flight}
 use Rattle.lapd_pair_laws.specs.Move.{PairEvent, Deliver, Expire200, Expire203, Move, Station, View, ViewStep, Refusal, acts, receives, delivers, takes, expires_200}
-use Rattle.lapd_pair_laws.specs.World.{World, swapped, view_of, in_world, world_after, happens, run}
-use Rattle.lapd_pair_laws.proofs.Drains.{Drains, drains_swapped, seen_delivered, preserved_delivered}
-use Rattle.lapd_pair_laws.proofs.DrainsByT200.{seen_expired, preserved_expired}
+use Rattle.lapd_pair_laws.specs.World.{World, swapped, view_of, in_world, world_after, happens}
+use Rattle.lapd_pair_laws.proofs.Drains.{Drains, drains_swapped, seen_delivered}
+use Rattle.lapd_pair_laws.proofs.DrainsByT200.{seen_expired}
 use Rattle.lapd_pair_laws.proofs.Flow.{Source, Sink, source, sink, Stage, Clean, Waiting, Polling, Answered, IsAt, Stream}
-use Rattle.lapd_pair_laws.proofs.Settles.{SameDropped, IsStill, user_drains, user_preserved, some_at}
+use Rattle.lapd_pair_laws.proofs.Settles.{IsStill, user_drains, some_at}
 use Rattle.lapd_pair_laws.proofs.Stepping.{user_move, network_move}
 use Rattle.lapd_pair_laws.proofs.Swaps.{network_alike}
-use Rattle.lapd_recovery_laws.specs.Own.{are_apart, is_line_empty, is_due, IsOwn, AreOwn, Rests}
+use Rattle.lapd_recovery_laws.specs.Own.{are_apart, is_line_empty, is_due, IsOwn, Rests}
 use Rattle.lapd_recovery_laws.specs.Timers.{HaveTimersOfStates}
 use Rattle.lapd_recovery_laws.proofs.Lost.{at, UserLost}
-use Rattle.lapd_recovery_laws.proofs.LostMoves.{lost_user_receives, lost_user_receives_dropped, lost_peer_receives, lost_peer_receives_dropped}
-use Rattle.lapd_recovery_laws.proofs.LostExpires.{BothLost, both_swapped, lost_user_expires, lost_user_expires_dropped, lost_peer_expires, lost_peer_expires_dropped, both_lost_expires, both_lost_expires_dropped}
-use Rattle.lapd_recovery_laws.proofs.TimersOfRuns.{timers_after_move}
+use Rattle.lapd_recovery_laws.proofs.LostMoves.{lost_user_receives, lost_peer_receives}
+use Rattle.lapd_recovery_laws.proofs.LostExpires.{BothLost, both_swapped, lost_user_expires, lost_peer_expires, both_lost_expires}
 
 -- neither end is lost, one is, or both are; n bounds the remaining work
 abbrev pub Draining : Bool → ℕ → World → Type 0
@@ -40,7 +39,6 @@ draining_swapped last n w (inr (inr (inr l))) = inr (inr (inr (both_swapped last
 pub record Moves (last : Bool) (n : ℕ) (w now : World) : Type 0 where
   pub some : 1 ≤ n
   pub draining : Draining last (n - 1) now
-  pub preserved : SameDropped w now
 
 lost_or_not : (last : Bool) (n : ℕ) (w : World) → UserLost last n w ⊎ Drains n w → Draining last n w
 lost_or_not last n w (inl l) = inr (inl l)
@@ -53,11 +51,8 @@ moves_swapped : (last : Bool) (n : ℕ) (event : PairEvent) (w : World)
     → Moves last n w (world_after w (happens Whole (network_move event) w))
 moves_swapped last n event w m =
     let now = world_after (swapped w) (happens Whole (user_move event) (swapped w)) in
-    subst (λ v. Moves last n w v) (sym (network_alike Whole event w)) (record {
-      some = m.some;
-      draining = draining_swapped last (n - 1) now m.draining;
-      preserved = record { user = m.preserved.network; network = m.preserved.user };
-    })
+    subst (λ v. Moves last n w v) (sym (network_alike Whole event w))
+    (record { some = m.some; draining = draining_swapped last (n - 1) now m.draining })
 
 -- ---- A frame is delivered.
 
@@ -73,15 +68,11 @@ peer_receives last n x y back frame rest l =
     let same : now ≡ swapped
     (world_after (swapped w) (happens Whole (user_move Deliver) (swapped w))) =
     network_alike Whole Deliver w in
-    let preserved =
-    subst (λ v. SameDropped w v) same
-    (lost_peer_receives_dropped last n x y back frame rest l) in
     record {
       some = let two = l.two in omega (arith, two);
       draining =
           inr (inr (inl (subst (λ v. UserLost last (n - 1) v) same
           (lost_peer_receives last n x y back frame rest l))));
-      preserved = record { user = preserved.network; network = preserved.user };
     }
 
 user_receives : (last : Bool) (n : ℕ) (x y : Station) (frame : Flight)
@@ -94,14 +85,10 @@ user_receives last n x y frame rest to_network (inl d) = record {
   draining = inl (user_drains n Deliver (at x y (frame ∷ rest) to_network) d
       (seen_delivered x y frame rest to_network n d.holds.user_base d.holds.network_base
       d.holds.both d.ends_settled.user d.sees));
-  preserved = user_preserved Deliver (at x y (frame ∷ rest) to_network)
-      (preserved_delivered x y frame rest to_network n d.holds.user_base d.holds.network_base
-      d.holds.both d.ends_settled.user d.sees);
 }
 user_receives last n x y frame rest to_network (inr (inl l)) = record {
   some = let two = l.two in omega (arith, two);
   draining = inr (inl (lost_user_receives last n x y frame rest to_network l));
-  preserved = lost_user_receives_dropped last n x y frame rest to_network l;
 }
 user_receives last n x y frame rest to_network (inr (inr (inl l))) =
     peer_receives last n y x to_network frame rest l
@@ -120,14 +107,12 @@ peer_expires last n x y l on =
     let then =
     swapped (world_after (swapped w) (happens Whole (user_move Expire200) (swapped w))) in
     let same : now ≡ then = network_alike Whole Expire200 w in
-    let preserved = subst (λ v. SameDropped w v) same (lost_peer_expires_dropped last n x y l on) in
     let after =
     subst (λ v. UserLost last (n - 1) v ⊎ Drains (n - 1) v) same
     (lost_peer_expires last n x y l on) in
     record {
       some = let two = l.two in omega (arith, two);
       draining = draining_swapped last (n - 1) then (lost_or_not last (n - 1) then after);
-      preserved = record { user = preserved.network; network = preserved.user };
     }
 
 -- an end in state 8 has a retry left, if the last try is admitted
@@ -149,12 +134,10 @@ user_expires last n x y (inl d) on may = record {
       let some = some_at (source x.end) (sink y.end) d.sees.flow.a on d.sees.flow.mine in
       omega (arith, le, some);
   draining = inl (user_drains n Expire200 (at x y [] []) d (seen_expired x y n on d.sees));
-  preserved = user_preserved Expire200 (at x y [] []) (preserved_expired x y n on d.sees);
 }
 user_expires last n x y (inr (inl l)) on may = record {
   some = let two = l.two in omega (arith, two);
   draining = inl (lost_user_expires last n x y l on (tries_now last x.end l.tries may l.in_8));
-  preserved = lost_user_expires_dropped last n x y l on (tries_now last x.end l.tries may l.in_8);
 }
 user_expires last n x y (inr (inr (inl l))) on may = peer_expires last n y x l on
 user_expires last n x y (inr (inr (inr l))) on may =
@@ -165,9 +148,6 @@ user_expires last n x y (inr (inr (inr l))) on may =
           draining_swapped last (n - 1) (swapped now)
           (lost_or_not last (n - 1) (swapped now) (both_lost_expires last n
           x y l on (tries_now last x.end l.user_tries may l.user_in_8)));
-      preserved =
-          both_lost_expires_dropped last n x y l on
-          (tries_now last x.end l.user_tries may l.user_in_8);
     }
 
 -- ---- Any own move.
@@ -320,40 +300,6 @@ pub own_moves_on : (last : Bool) (n : ℕ) (move : Move) (w : World) → Drainin
 own_moves_on last n move w d may have own =
     own_event last n w.user w.network move.side move.event w.to_user w.to_network d may have own.due
     own.admitted
-
--- ---- All of them.
-
-pub record Reaches (n : ℕ) (w : World) (moves : List Move) (now : World) : Type 0 where
-  pub few : length moves ≤ n
-  pub draining : Draining false (n - length moves) now
-  pub have : HaveTimersOfStates now
-  pub preserved : SameDropped w now
-
-pub own_moves_reach : (n : ℕ) (w : World) (moves : List Move) → Draining false n w
-    → HaveTimersOfStates w → AreOwn Whole moves w → Reaches n w moves (run Whole moves w)
-own_moves_reach n w [] d have own =
-    let same : n ≡ n - 0 = omega arith in
-    record {
-      few = omega arith;
-      draining = subst (λ m. Draining false m w) same d;
-      have = have;
-      preserved = record { user = refl; network = refl };
-    }
-own_moves_reach n w (move ∷ moves) d have own =
-    let one = own_moves_on false n move w d (λ is last. cc) have own.0 in
-    let now = world_after w (happens Whole move w) in
-    let rest =
-    own_moves_reach (n - 1) now moves one.draining (timers_after_move move w have) own.1 in
-    let fewer : n - 1 - length moves ≡ n - length (move ∷ moves) = omega arith in
-    record {
-      few = let some = one.some in let few = rest.few in omega (arith, some, few);
-      draining = subst (λ m. Draining false m (run Whole moves now)) fewer rest.draining;
-      have = rest.have;
-      preserved = record {
-        user = rest.preserved.user ∙ one.preserved.user;
-        network = rest.preserved.network ∙ one.preserved.network;
-      };
-    }
 
 -- ---- Where no own move is possible.
 

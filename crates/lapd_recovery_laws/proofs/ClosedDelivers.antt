@@ -38,13 +38,12 @@ use Rattle.lapd_pair_laws.proofs.Closings.{most_is_one}
 use Rattle.lapd_recovery_laws.specs.Own.{IsFree}
 use Rattle.lapd_recovery_laws.proofs.Cleared.{IsClearIn5, AreClear}
 use Rattle.lapd_recovery_laws.proofs.EndSends.{Unsending, pending_in, pending, end_closes}
-use Rattle.lapd_recovery_laws.proofs.Establishes.{discards_by}
 use Rattle.lapd_recovery_laws.proofs.LoneSteps.{sends_nothing}
 use Rattle.lapd_recovery_laws.proofs.OpenDelivers.{Delivered, heard_in, impossible}
 use Rattle.lapd_recovery_laws.proofs.OpenFrames.{unit_kind, asks_closed, reset_arrives}
 use Rattle.lapd_recovery_laws.proofs.Proceeding.{weight_of, weigh, weight_some, plain_of, plain_in, no_number_plain, heard, extra, extra_few, extra_shut, extra_more, extra_first, extra_passed, Arrives, Hears, in_transit_of_whole, none_rejected, missing_in, missing, load_in, load, load_open, load_less, load_closed, load_least, once_more, none_more, fresh_few, Share, Pays}
 use Rattle.lapd_recovery_laws.proofs.HalfSteps.{refused_line}
-use Rattle.lapd_recovery_laws.proofs.SendsOn.{indicated_line, by_each}
+use Rattle.lapd_recovery_laws.proofs.SendsOn.{discards_by, indicated_line, by_each}
 use Rattle.lapd_recovery_laws.proofs.ClosedInputs.{passed_over, not_ua, confirmed_line, opened_line}
 
 module _ (station peer : Station) (frame : Flight) (rest outgoing : List Flight) (base its_base : ℕ)

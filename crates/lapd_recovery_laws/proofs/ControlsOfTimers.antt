@@ -28,7 +28,7 @@ use Rattle.lapd_recovery_laws.proofs.LoneSteps.{Polls, sabme, asking, last_try_i
 use Rattle.lapd_recovery_laws.proofs.Lost.{at}
 use Rattle.lapd_recovery_laws.proofs.OneMoreFrame.{seeing}
 use Rattle.lapd_recovery_laws.proofs.OutageWorlds.{Facts}
-use Rattle.lapd_recovery_laws.proofs.PeerReleased.{t200_runs, t203_runs}
+use Rattle.lapd_recovery_laws.proofs.OwnBySide.{t200_runs, t203_runs}
 use Rattle.lapd_recovery_laws.proofs.Renewals.{halting, halting_append, none_halting, Renews, shut_renews, IsCounted, counted, request_in, under_way, request, request_falls, open_requests_none}
 use Rattle.lapd_recovery_laws.proofs.StaysOpen.{SendsPoll, AwaitsNone, awaits_none}
 use Rattle.lapd_recovery_laws.proofs.TimersBeside.{IsBeside, t200_beside, t203_beside}

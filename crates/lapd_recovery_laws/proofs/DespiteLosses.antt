@@ -1,159 +1,137 @@
--- Every world recovers although frames are lost, if only so many are.
-use Rattle.std.proofs.Common.{◌≡◌, ℕ, ◌+◌, ◌*◌, ◌≤◌, ◌||◌, false, List, [], ◌∷◌, sym, ap, subst, ◌∙◌, arith}
+-- Own moves, and own moves and losses, are moves of the line with no early timer: the laws on them
+-- are instances.
+use Rattle.std.proofs.Common.{◌≡◌, ℕ, ◌*◌, ◌+◌, ◌≤◌, not, true, List, [], ◌∷◌, refl, ap, arith}
 use Rattle.std.proofs.lemmas.Nat.{mul-le}
-use Rattle.lapd_mod128.specs.Counting.{Reading, Whole, Tagged}
+use Rattle.lapd_frame.specs.declared.Side.{Side}
+use Rattle.lapd_frame.specs.declared.Side.TheVariants as side
+use Rattle.lapd_mod128.specs.Counting.{Reading}
+use Rattle.lapd_link_definition.specs.declared.state.State.{State}
+use Rattle.lapd_link_definition.specs.declared.state.State.TheVariants.{TimerRecovery}
 use Rattle.lapd_link_definition.specs.Parameters.{Parameters}
-use Rattle.lapd_pair_laws.specs.Consistent.{IsConsistentWorld}
-use Rattle.lapd_pair_laws.specs.Invariant.{IsInvariant}
-use Rattle.lapd_pair_laws.specs.Move.{Move}
-use Rattle.lapd_pair_laws.specs.Tagged.{tag_world}
-use Rattle.lapd_pair_laws.specs.World.{World, new_world, happens, world_after, run, left}
-use Rattle.lapd_pair_laws.proofs.Consistency.{run_consistent}
-use Rattle.lapd_pair_laws.proofs.Reached.{reached_tags}
-use Rattle.lapd_pair_laws.proofs.TaggedMoves.{left_on_tags}
-use Rattle.lapd_pair_laws.proofs.Whole.{each_move_preserves, each_run_preserves}
-use Rattle.lapd_recovery_laws.specs.Agreed.{AreAgreed}
-use Rattle.lapd_recovery_laws.specs.Deliveries.{frames}
-use Rattle.lapd_recovery_laws.specs.EveryWorld.{IsFreeWorld}
-use Rattle.lapd_recovery_laws.specs.Losses.{is_loss, AreOwnOrLosses, losses, most_moves_despite, ComesBackDespite}
-use Rattle.lapd_recovery_laws.specs.Own.{Rests, IsFree}
-use Rattle.lapd_recovery_laws.proofs.CountedMoves.{Keeps, IsWeight, moves_counted}
-use Rattle.lapd_recovery_laws.proofs.EveryWorld.{emptied_at, world_comes_back, free_world_by_tags}
-use Rattle.lapd_recovery_laws.proofs.Outage.{coming_moves}
-use Rattle.lapd_recovery_laws.proofs.OutageWorlds.{Facts}
-use Rattle.lapd_recovery_laws.proofs.OwnOnTags.{due_on_tags, ok_on_tags, world_on_tags, rests_by_tags, ran_on_tags, agreed_on_tags}
-use Rattle.lapd_recovery_laws.proofs.RunsEmpty as runs
-use Rattle.lapd_recovery_laws.proofs.RunsEmpty.{Flow}
-use Rattle.lapd_recovery_laws.proofs.Situations.{Coming}
+use Rattle.lapd_pair_laws.specs.Line.{Flight}
+use Rattle.lapd_pair_laws.specs.Move.{PairEvent, Deliver, Lose, Expire200, Expire203, Move, Station}
+use Rattle.lapd_pair_laws.specs.World.{World, view_of, new_world, happens, world_after, run, left}
+use Rattle.lapd_recovery_laws.specs.EarlyTimers.{IsLineMove, AreLineMoves, is_early, earlies, if_in_8, overtaken_by, overtaken, most_line_moves, ComesBackDespiteTimers}
+use Rattle.lapd_recovery_laws.specs.EveryWorld.{IsFreeWorld, WorldComesBack}
+use Rattle.lapd_recovery_laws.specs.Losses.{is_loss, IsOwnOrLoss, AreOwnOrLosses, one_if, losses, ComesBackDespite}
+use Rattle.lapd_recovery_laws.specs.Own.{is_line_empty, IsOwn, AreOwn}
+use Rattle.lapd_recovery_laws.proofs.DespiteTimers.{every_world_comes_back_despite_early_timers}
+use Rattle.lapd_recovery_laws.proofs.Lost.{at}
 
--- ---- From any world.
+-- ---- Own moves and losses.
 
-module _ (N : ℕ) (some : 1 ≤ N) (l : ℕ) where
-  -- the weight of a line after an outage
-  pub outage : IsWeight N l (6 * N + 11) (λ b w. Unit {0}) (λ n w. Coming N false n w)
-  outage = record {
-    own_holds = λ b s event w k held own. tt;
-    loss_holds = λ b i s w held ok. tt;
-    begins = λ b n x y k held flow.
-        let e =
-        emptied_at N some false n x y
-        (record {
-          facts = k.facts;
-          preserved = k.preserved;
-          flow = flow;
-          user_free = k.user_free;
-          network_free = k.network_free;
-        }) (λ no. cc) in
-        record { m = e.m; weight = e.coming; few = let most = e.most in omega (arith, most) };
-    falls =
-        λ n s event w weight k own. let c =
-        coming_moves N some false n s event w weight k.facts own in
-        record { some_left = c.some; weight = c.arriving };
-  }
+none_in_8 : (state : State) → if_in_8 state 0 ≡ 0
+none_in_8 TimerRecovery = refl
+none_in_8 state = refl
 
-pub despite_losses : (N : ℕ) → 1 ≤ N → (w : World) → Facts N w → IsConsistentWorld Whole w
-    → IsFree w.user.end → IsFree w.network.end → ComesBackDespite Whole N w
-despite_losses N some w facts preserved user_free network_free =
-    let all = runs.left_waits w preserved in
-    let k : Keeps N (left w) w =
-    record {
-      facts = facts;
-      preserved = preserved;
-      user_free = user_free;
-      network_free = network_free;
-      few = omega (arith, all);
-    } in
-    record {
-      few = λ lost moves own le.
-          let few =
-          (moves_counted N (left w) (6 * N + 11) (λ b w. Unit {0})
-          (λ n w. Coming N false n w) (outage N some (left w)) lost w k tt moves own
-          le).few in
-          let more =
-          mul-le (losses moves) (4 * left w + 6 * N + 18) lost (4 * left w + 6 * N + 18) le
-          (omega arith) in
-          omega (arith, few, more);
-      agreed = λ moves own rests.
-          let now =
-          (moves_counted N (left w) (6 * N + 11) (λ b w. Unit {0})
-          (λ n w. Coming N false n w) (outage N some (left w)) (losses moves) w k tt
-          moves own (omega arith)).keeps in
-          (world_comes_back N some (run Whole moves w) now.facts now.preserved now.user_free
-          now.network_free).agreed [] tt rests;
-    }
+-- on an empty line T200 overtakes nothing
+none_overtaken : (s : Side) (x y : Station) (to_user to_network : List Flight)
+    → is_line_empty (at x y to_user to_network) ≡ true
+    → overtaken_by Expire200 (view_of s (at x y to_user to_network)) ≡ 0
+none_overtaken side.User x y [] [] empty = none_in_8 x.end.state
+none_overtaken side.Network x y [] [] empty = none_in_8 y.end.state
+none_overtaken s x y (frame ∷ rest) to_network empty = cc
+none_overtaken s x y [] (frame ∷ rest) empty = cc
 
--- ---- After every run, on whole numbers and on tags.
+record IsTimely (r : Reading) (s : Side) (event : PairEvent) (w : World) : Type 0 where
+  line : IsLineMove r (record { side = s; event = event }) w
+  early : one_if (is_early event w) ≡ 0
+  late : overtaken_by event (view_of s w) ≡ 0
 
-pub own_or_losses_by_tags : (moves : List Move) (w : World) → IsInvariant w
-    → IsConsistentWorld Whole w → AreOwnOrLosses Tagged moves (tag_world w)
-    → AreOwnOrLosses Whole moves w
-own_or_losses_by_tags [] w i preserved own = tt
-own_or_losses_by_tags (move ∷ moves) w i preserved own =
-    let now = world_after w (happens Whole move w) in (
-      record {
-        due = ap (λ b. is_loss move.event || b) (sym (due_on_tags move.event w)) ∙ own.0.due;
-        admitted = sym (ok_on_tags move w i preserved) ∙ own.0.admitted;
-      },
-      own_or_losses_by_tags moves now (each_move_preserves move w i)
-          (run_consistent Whole (move ∷ []) w preserved)
-          (subst (λ v. AreOwnOrLosses Tagged moves v) (world_on_tags move w i preserved) own.1),
-    )
-
-on_tags : (N : ℕ) (w : World) → IsInvariant w → IsConsistentWorld Whole w
-    → ComesBackDespite Whole N w → ComesBackDespite Tagged N (tag_world w)
-on_tags N w i preserved c = record {
-  few = λ lost moves own le.
-      let same : most_moves_despite lost N (tag_world w) ≡ most_moves_despite lost N w =
-      let l = left_on_tags w in
-      let f = runs.frames_on_tags w in
-      ap (λ k. 2 * k + 3 * left (tag_world w) + 6 * N + 15 + lost *
-      (4 * left (tag_world w) + 6 * N + 18)) f
-      ∙ ap (λ k. 2 * frames w + 3 * k + 6 * N + 15 + lost * (4 * k + 6 * N + 18)) l in
-      let few = c.few lost moves (own_or_losses_by_tags moves w i preserved own) le in
-      omega (arith, same, few);
-  agreed = λ moves own rests.
-      let now = run Whole moves w in
-      let same : run Tagged moves (tag_world w) ≡ tag_world now = ran_on_tags moves w i preserved in
-      let still : Rests Whole now =
-      rests_by_tags now (each_run_preserves moves w i)
-      (run_consistent Whole moves w preserved) (subst (λ v. Rests Tagged v) same rests) in
-      subst AreAgreed (sym same) (agreed_on_tags now
-      (c.agreed moves (own_or_losses_by_tags moves w i preserved own) still));
+timely : (r : Reading) (s : Side) (event : PairEvent) (w : World)
+    → IsOwnOrLoss r (record { side = s; event = event }) w → IsTimely r s event w
+timely r s Deliver w own =
+    record { line = record { of_line = refl; admitted = own.admitted }; early = refl; late = refl }
+timely r s (Lose i) w own =
+    record { line = record { of_line = refl; admitted = own.admitted }; early = refl; late = refl }
+timely r s Expire200 w own = record {
+  line = record { of_line = refl; admitted = own.admitted };
+  early = ap (λ b. one_if (not b)) own.due;
+  late = none_overtaken s w.user w.network w.to_user w.to_network own.due;
 }
+timely r s Expire203 w own = record {
+  line = record { of_line = refl; admitted = own.admitted };
+  early = ap (λ b. one_if (not b)) own.due;
+  late = refl;
+}
+timely r s event w own = let due = own.due in cc
 
-module _ (N : ℕ) (some : 1 ≤ N) (user network : Parameters) (user_small : user.k ≤ 127)
-    (network_small : network.k ≤ 127) (user_some : 1 ≤ user.k) (network_some : 1 ≤ network.k)
-    (moves : List Move) where
-  abbrev reached : World
-  reached = run Whole moves (new_world user network)
+pub record AreTimely (r : Reading) (moves : List Move) (w : World) : Type 0 where
+  pub line : AreLineMoves r moves w
+  pub early : earlies r moves w ≡ 0
+  pub late : overtaken r moves w ≡ 0
 
-  holds : IsInvariant reached
-  holds = runs.holds user network user_small network_small user_some network_some moves
-
-  preserved : IsConsistentWorld Whole reached
-  preserved = runs.preserved user network user_small network_small user_some network_some moves
-
-  back_whole : IsFreeWorld N reached → ComesBackDespite Whole N reached
-  back_whole a =
-      let c =
-      despite_losses N some reached (runs.facts user network user_small network_small user_some
-      network_some moves N a.user_retries a.network_retries) preserved a.user_free
-      a.network_free in
-      c
-
-  comes_back_by : (r : Reading) → IsFreeWorld N (run r moves (new_world user network))
-      → ComesBackDespite r N (run r moves (new_world user network))
-  comes_back_by Whole a = back_whole a
-  comes_back_by Tagged a =
-      let same : run Tagged moves (new_world user network) ≡ tag_world reached =
-      reached_tags user network user_small network_small moves in
-      subst (λ w. ComesBackDespite Tagged N w) (sym same)
-      (on_tags N reached holds preserved
-      (back_whole (free_world_by_tags N reached (subst (λ w. IsFreeWorld N w) same a))))
+pub are_timely : (r : Reading) (moves : List Move) (w : World) → AreOwnOrLosses r moves w
+    → AreTimely r moves w
+are_timely r [] w own = record { line = tt; early = refl; late = refl }
+are_timely r (move ∷ moves) w own =
+    let one = timely r move.side move.event w own.0 in
+    let rest = are_timely r moves (world_after w (happens r move w)) own.1 in
+    let a = one.early in
+    let b = rest.early in
+    let c = one.late in
+    let d = rest.late in
+    record {
+      line = (one.line, rest.line);
+      early = omega (arith, a, b);
+      late = omega (arith, c, d);
+    }
 
 pub every_world_comes_back_despite_losses : (r : Reading) (n200 : ℕ) → 1 ≤ n200
     → (user network : Parameters) → user.k ≤ 127 → network.k ≤ 127 → 1 ≤ user.k → 1 ≤ network.k
     → (moves : List Move) → IsFreeWorld n200 (run r moves (new_world user network))
     → ComesBackDespite r n200 (run r moves (new_world user network))
 every_world_comes_back_despite_losses r n200 some user network u n us ns moves a =
-    comes_back_by n200 some user network u n us ns moves r a
+    of_timers (run r moves (new_world user network))
+    (every_world_comes_back_despite_early_timers r n200 some user network u n us ns moves a)
+  where
+    of_timers : (w : World) → ComesBackDespiteTimers r n200 w → ComesBackDespite r n200 w
+    of_timers w c = record {
+      few = λ lost moves own le.
+          let t = are_timely r moves w own in
+          let early = t.early in
+          let late = t.late in
+          let same : most_line_moves (losses moves) (earlies r moves w) (overtaken r moves w) n200 w
+          ≡ most_line_moves (losses moves) 0 0 n200 w =
+          rw (early, late) refl in
+          let few = c.few moves t.line in
+          let more =
+          mul-le (losses moves) (4 * left w + 6 * n200 + 18) lost (4 * left w + 6 * n200 + 18) le
+          (omega arith) in
+          omega (arith, few, same, more);
+      agreed = λ moves own rests. c.agreed moves (are_timely r moves w own).line rests;
+    }
+
+-- ---- Own moves alone.
+
+own_or_loss : (r : Reading) (s : Side) (event : PairEvent) (w : World)
+    → IsOwn r (record { side = s; event = event }) w
+    → IsOwnOrLoss r (record { side = s; event = event }) w × (one_if (is_loss event) ≡ 0)
+own_or_loss r s Deliver w own = (record { due = refl; admitted = own.admitted }, refl)
+own_or_loss r s Expire200 w own = (record { due = own.due; admitted = own.admitted }, refl)
+own_or_loss r s Expire203 w own = (record { due = own.due; admitted = own.admitted }, refl)
+own_or_loss r s event w own = let due = own.due in cc
+
+pub own_or_losses : (r : Reading) (moves : List Move) (w : World) → AreOwn r moves w
+    → AreOwnOrLosses r moves w × (losses moves ≡ 0)
+own_or_losses r [] w own = (tt, refl)
+own_or_losses r (move ∷ moves) w own =
+    let one = own_or_loss r move.side move.event w own.0 in
+    let rest = own_or_losses r moves (world_after w (happens r move w)) own.1 in
+    let a = one.1 in let b = rest.1 in ((one.0, rest.0), omega (arith, a, b))
+
+pub every_world_comes_back : (r : Reading) (n200 : ℕ) → 1 ≤ n200 → (user network : Parameters)
+    → user.k ≤ 127 → network.k ≤ 127 → 1 ≤ user.k → 1 ≤ network.k → (moves : List Move)
+    → IsFreeWorld n200 (run r moves (new_world user network))
+    → WorldComesBack r n200 (run r moves (new_world user network))
+every_world_comes_back r n200 some user network u n us ns moves a =
+    of_losses (run r moves (new_world user network))
+    (every_world_comes_back_despite_losses r n200 some user network u n us ns moves a)
+  where
+    of_losses : (w : World) → ComesBackDespite r n200 w → WorldComesBack r n200 w
+    of_losses w c = record {
+      few = λ moves own.
+          let o = own_or_losses r moves w own in
+          let none = o.1 in let few = c.few 0 moves o.0 (omega (arith, none)) in omega (arith, few);
+      agreed = λ moves own rests. c.agreed moves (own_or_losses r moves w own).0 rests;
+    }

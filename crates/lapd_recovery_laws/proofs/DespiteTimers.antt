@@ -1,5 +1,5 @@
 -- Every world recovers although frames are lost and timers expire early, if only so many do.
-use Rattle.std.proofs.Common.{◌≡◌, ℕ, ◌+◌, ◌*◌, ◌≤◌, not, false, List, [], ◌∷◌, map, refl, sym, ap, subst, ◌∙◌, arith}
+use Rattle.std.proofs.Common.{◌≡◌, ℕ, ◌+◌, ◌*◌, ◌≤◌, not, List, [], ◌∷◌, map, refl, sym, ap, subst, ◌∙◌, arith}
 use Rattle.lapd_frame.specs.declared.Control.{Control}
 use Rattle.lapd_frame.specs.declared.Control.TheVariants.{I}
 use Rattle.lapd_frame.specs.declared.Side.{Side}
@@ -14,7 +14,6 @@ use Rattle.lapd_pair_laws.specs.Move.{PairEvent, Expire200, Expire203, Move}
 use Rattle.lapd_pair_laws.specs.Tagged.{tag_flight, tag_world}
 use Rattle.lapd_pair_laws.specs.World.{World, view_of, new_world, happens, world_after, run, left}
 use Rattle.lapd_pair_laws.proofs.Consistency.{run_consistent}
-use Rattle.lapd_pair_laws.proofs.Reached.{reached_tags}
 use Rattle.lapd_pair_laws.proofs.TaggedMoves.{left_on_tags}
 use Rattle.lapd_pair_laws.proofs.Whole.{each_move_preserves, each_run_preserves}
 use Rattle.lapd_recovery_laws.specs.Agreed.{AreAgreed}
@@ -23,41 +22,68 @@ use Rattle.lapd_recovery_laws.specs.EarlyTimers.{AreLineMoves, is_early, earlies
 use Rattle.lapd_recovery_laws.specs.EveryWorld.{IsFreeWorld}
 use Rattle.lapd_recovery_laws.specs.Losses.{one_if, losses}
 use Rattle.lapd_recovery_laws.specs.Own.{Rests, IsFree}
-use Rattle.lapd_recovery_laws.proofs.CountedMoves.{Keeps}
+use Rattle.lapd_recovery_laws.proofs.CountedMoves.{Keeps, IsWeight}
 use Rattle.lapd_recovery_laws.proofs.CountedTimers.{line_moves_counted}
-use Rattle.lapd_recovery_laws.proofs.DespiteLosses.{outage}
-use Rattle.lapd_recovery_laws.proofs.EveryWorld.{world_comes_back, free_world_by_tags}
+use Rattle.lapd_recovery_laws.proofs.EveryWorld.{emptied_at, rests_agree, free_world_by_tags}
+use Rattle.lapd_recovery_laws.proofs.Outage.{coming_moves}
 use Rattle.lapd_recovery_laws.proofs.OutageWorlds.{Facts}
 use Rattle.lapd_recovery_laws.proofs.OwnOnTags.{due_on_tags, ok_on_tags, world_on_tags, rests_by_tags, ran_on_tags, agreed_on_tags}
 use Rattle.lapd_recovery_laws.proofs.RunsEmpty as runs
+use Rattle.lapd_recovery_laws.proofs.RunsEmpty.{after_runs}
 use Rattle.lapd_recovery_laws.proofs.Situations.{Coming}
 
 -- ---- From any world.
 
-pub despite_timers : (N : ℕ) → 1 ≤ N → (w : World) → Facts N w → IsConsistentWorld Whole w
-    → IsFree w.user.end → IsFree w.network.end → ComesBackDespiteTimers Whole N w
-despite_timers N some w facts preserved user_free network_free =
+-- the weight of a line after an outage
+pub outage : (N : ℕ) → 1 ≤ N → (l : ℕ)
+    → IsWeight N l (6 * N + 11) (λ b w. Unit {0}) (λ n w. Coming N n w)
+outage N some l = record {
+  own_holds = λ b s event w k held own. tt;
+  loss_holds = λ b i s w held ok. tt;
+  begins = λ b n x y k held flow.
+      let e =
+      emptied_at N some n x y
+      (record {
+        facts = k.facts;
+        preserved = k.preserved;
+        flow = flow;
+        user_free = k.user_free;
+        network_free = k.network_free;
+      }) in
+      record { m = e.m; weight = e.coming; few = let most = e.most in omega (arith, most) };
+  falls =
+      λ n s event w weight k own. let c = coming_moves N some n s event w weight k.facts own in
+      record { some_left = c.some; weight = c.arriving };
+}
+
+pub keeps_left : (N : ℕ) (w : World) → Facts N w → IsConsistentWorld Whole w → IsFree w.user.end
+    → IsFree w.network.end → Keeps N (left w) w
+keeps_left N w facts preserved user_free network_free =
     let all = runs.left_waits w preserved in
-    let k : Keeps N (left w) w =
     record {
       facts = facts;
       preserved = preserved;
       user_free = user_free;
       network_free = network_free;
       few = omega (arith, all);
-    } in
+    }
+
+pub despite_timers : (N : ℕ) → 1 ≤ N → (w : World) → Facts N w → IsConsistentWorld Whole w
+    → IsFree w.user.end → IsFree w.network.end → ComesBackDespiteTimers Whole N w
+despite_timers N some w facts preserved user_free network_free =
+    let k = keeps_left N w facts preserved user_free network_free in
     record {
       few = λ moves own.
           let few =
-          (line_moves_counted N (left w) (6 * N + 11) (λ n w. Coming N false n w)
+          (line_moves_counted N (left w) (6 * N + 11) (λ n w. Coming N n w)
           (outage N some (left w)) w k moves own).few in
           omega (arith, few);
       agreed = λ moves own rests.
           let now =
-          (line_moves_counted N (left w) (6 * N + 11) (λ n w. Coming N false n w)
+          (line_moves_counted N (left w) (6 * N + 11) (λ n w. Coming N n w)
           (outage N some (left w)) w k moves own).keeps in
-          (world_comes_back N some (run Whole moves w) now.facts now.preserved now.user_free
-          now.network_free).agreed [] tt rests;
+          rests_agree N some (run Whole moves w) now.facts now.preserved now.user_free
+          now.network_free rests;
     }
 
 -- ---- On tags.
@@ -147,39 +173,12 @@ on_tags N w i preserved c = record {
 
 -- ---- After every run.
 
-module _ (N : ℕ) (some : 1 ≤ N) (user network : Parameters) (user_small : user.k ≤ 127)
-    (network_small : network.k ≤ 127) (user_some : 1 ≤ user.k) (network_some : 1 ≤ network.k)
-    (moves : List Move) where
-  abbrev reached : World
-  reached = run Whole moves (new_world user network)
-
-  holds : IsInvariant reached
-  holds = runs.holds user network user_small network_small user_some network_some moves
-
-  preserved : IsConsistentWorld Whole reached
-  preserved = runs.preserved user network user_small network_small user_some network_some moves
-
-  back_whole : IsFreeWorld N reached → ComesBackDespiteTimers Whole N reached
-  back_whole a =
-      let c =
-      despite_timers N some reached (runs.facts user network user_small network_small user_some
-      network_some moves N a.user_retries a.network_retries) preserved a.user_free
-      a.network_free in
-      c
-
-  comes_back_by : (r : Reading) → IsFreeWorld N (run r moves (new_world user network))
-      → ComesBackDespiteTimers r N (run r moves (new_world user network))
-  comes_back_by Whole a = back_whole a
-  comes_back_by Tagged a =
-      let same : run Tagged moves (new_world user network) ≡ tag_world reached =
-      reached_tags user network user_small network_small moves in
-      subst (λ w. ComesBackDespiteTimers Tagged N w) (sym same)
-      (on_tags N reached holds preserved
-      (back_whole (free_world_by_tags N reached (subst (λ w. IsFreeWorld N w) same a))))
-
 pub every_world_comes_back_despite_early_timers : (r : Reading) (n200 : ℕ) → 1 ≤ n200
     → (user network : Parameters) → user.k ≤ 127 → network.k ≤ 127 → 1 ≤ user.k → 1 ≤ network.k
     → (moves : List Move) → IsFreeWorld n200 (run r moves (new_world user network))
     → ComesBackDespiteTimers r n200 (run r moves (new_world user network))
-every_world_comes_back_despite_early_timers r n200 some user network u n us ns moves a =
-    comes_back_by n200 some user network u n us ns moves r a
+every_world_comes_back_despite_early_timers r n200 some =
+    after_runs (λ w. IsFreeWorld n200 w) (λ r w. ComesBackDespiteTimers r n200 w)
+    (λ w facts preserved a. despite_timers n200 some w (facts n200 a.user_retries a.network_retries)
+    preserved a.user_free a.network_free)
+    (free_world_by_tags n200) (on_tags n200) r

@@ -1,12 +1,9 @@
--- Every world that a run leads to recovers: first the line runs empty, and then it recovers as
--- after an outage.
-use Rattle.std.proofs.Common.{◌≡◌, inl, inr, ℕ, ◌+◌, ◌-◌, ◌*◌, ◌≤◌, nat_lt, ◌||◌, Bool, true, false, List, [], ◌∷◌, length, is_ok, refl, sym, ap, subst, arith}
-use Rattle.lapd_frame.specs.declared.Side.{Side}
-use Rattle.lapd_mod128.specs.Counting.{Reading, Whole, Tagged}
+-- A line that has run empty recovers as after an outage, and where it rests its ends agree.
+use Rattle.std.proofs.Common.{◌≡◌, inl, inr, ℕ, ◌+◌, ◌-◌, ◌*◌, ◌≤◌, nat_lt, ◌||◌, Bool, true, false, List, [], ◌∷◌, length, refl, ap, arith}
+use Rattle.lapd_mod128.specs.Counting.{Whole}
 use Rattle.lapd_link_definition.specs.declared.state.State.{State}
 use Rattle.lapd_link_definition.specs.declared.state.State.TheVariants.{AwaitingEstablishment, MultipleFrameEstablished, TimerRecovery}
 use Rattle.lapd_link_definition.specs.EndOfStep.{is_7_or_8}
-use Rattle.lapd_link_definition.specs.Parameters.{Parameters}
 use Rattle.lapd_link_definition.specs.End.{End, unsent, waiting}
 use Rattle.lapd_pair_laws.specs.Consistent.{IsConsistentWorld}
 use Rattle.lapd_pair_laws.specs.Conjuncts.{IsConsistentSender}
@@ -14,38 +11,27 @@ use Rattle.lapd_pair_laws.specs.Kinds.{Kind}
 use Rattle.lapd_pair_laws.specs.Parties.{Sender, party}
 use Rattle.lapd_pair_laws.specs.Invariant.{Both, IsInvariant}
 use Rattle.lapd_pair_laws.specs.Line.{Flight}
-use Rattle.lapd_pair_laws.specs.Move.{PairEvent, Deliver, Move, Station}
+use Rattle.lapd_pair_laws.specs.Move.{Station}
 use Rattle.lapd_pair_laws.specs.Tagged.{tag_world}
-use Rattle.lapd_pair_laws.specs.World.{World, new_world, happens, world_after, run}
-use Rattle.lapd_pair_laws.proofs.Consistency.{run_consistent}
+use Rattle.lapd_pair_laws.specs.World.{World}
 use Rattle.lapd_pair_laws.proofs.Facts.{between_open}
 use Rattle.lapd_pair_laws.proofs.Flow.{Source, Sink, source, sink, Clean, Waiting, burden, fresh, Stream}
 use Rattle.lapd_pair_laws.proofs.MidSteps.{Mid, enter}
-use Rattle.lapd_pair_laws.proofs.Reached.{reached_tags}
-use Rattle.lapd_pair_laws.proofs.TaggedMoves.{left_on_tags}
-use Rattle.lapd_pair_laws.proofs.Whole.{each_run_preserves}
 use Rattle.lapd_pair_laws.proofs.Settles.{in_7}
 use Rattle.lapd_pair_laws.proofs.SenderStream.{in_transit_none}
 use Rattle.lapd_recovery_laws.specs.Agreed.{AreAgreed}
-use Rattle.lapd_recovery_laws.specs.EveryWorld.{IsFreeWorld, WorldComesBack}
+use Rattle.lapd_recovery_laws.specs.EveryWorld.{IsFreeWorld}
 use Rattle.lapd_recovery_laws.specs.Deliveries.{most_deliveries}
-use Rattle.lapd_recovery_laws.specs.Own.{is_due, AreOwn, Rests, IsFree}
-use Rattle.lapd_recovery_laws.specs.WantedLine.{AreWanting}
-use Rattle.lapd_recovery_laws.proofs.AfterOutage.{facts_after, Returns, returns_from, half_begins, free_by_tags}
+use Rattle.lapd_recovery_laws.specs.Own.{Rests, IsFree}
+use Rattle.lapd_recovery_laws.proofs.AfterOutage.{agreed_at_rest, half_begins, free_by_tags}
 use Rattle.lapd_recovery_laws.proofs.AnyOrder.{Draining, rests_still}
 use Rattle.lapd_recovery_laws.proofs.Lost.{at}
 use Rattle.lapd_recovery_laws.proofs.OpenDelivers.{hears_in}
 use Rattle.lapd_recovery_laws.proofs.OpenLine.{same_in_transit, draining_from}
 use Rattle.lapd_recovery_laws.proofs.OutageWorlds.{Facts}
-use Rattle.lapd_recovery_laws.proofs.OwnOnTags.{are_own_by_tags, rests_by_tags, ran_on_tags, agreed_on_tags}
 use Rattle.lapd_recovery_laws.proofs.Proceeding.{Arrives, Hears, extra, missing_in, missing, load_in, load, load_open, once_more, fresh_few, Share, Flowing}
 use Rattle.lapd_recovery_laws.proofs.Situations.{Coming}
 use Rattle.lapd_recovery_laws.proofs.RunsEmpty as runs
-
--- n bounds the deliveries
-record Comes (N n : ℕ) (w : World) (moves : List Move) : Type 0 where
-  few : length moves ≤ n + 6 * N + 11
-  agreed : Rests Whole (run Whole moves w) → AreAgreed (run Whole moves w)
 
 -- ---- The moves that a side accounts for on an empty line.
 
@@ -126,9 +112,9 @@ module _ (N : ℕ) (some : 1 ≤ N) where
     pub network_free : IsFree w.network.end
 
   -- a world that recovers as after an outage; m bounds its own moves
-  pub record IsEmptied (up : Bool) (n : ℕ) (w : World) : Type 0 where
+  pub record IsEmptied (n : ℕ) (w : World) : Type 0 where
     pub m : ℕ
-    pub coming : Coming N up m w
+    pub coming : Coming N m w
     pub most : m ≤ n + 6 * N + 11
 
   -- the ends of an empty line, with what each side accounts for
@@ -149,9 +135,6 @@ module _ (N : ℕ) (some : 1 ≤ N) where
     unsent_y =
         share_unsent y x i.network_base i.user_base [] [] f.b
         (record { mine = i.both.its; its = i.both.mine }) f.its
-
-    returns : (m : ℕ) → Coming N false m w → Returns m w
-    returns m c = returns_from N some m w c b.facts b.preserved
 
     both_open : (last : Bool) → is_7_or_8 x.end.state ≡ true → is_7_or_8 y.end.state ≡ true
         → (x.end.state ≡ TimerRecovery → (last || nat_lt x.end.rc x.end.parameters.n200) ≡ true)
@@ -181,15 +164,10 @@ module _ (N : ℕ) (some : 1 ≤ N) where
         (in_7 y.end is b.facts.settled.network.timed) burden_y)
         burden_x burden_y (omega (arith, most))
 
-    -- the own moves from here
-    record Ends (moves : List Move) : Type 0 where
-      few : length moves ≤ n + 6 * N + 11
-      agreed : Rests Whole (run Whole moves w) → AreAgreed (run Whole moves w)
-
-    emptied : (up : Bool) → (up ≡ true → AreWanting x.end y.end) → IsEmptied up n w
-    emptied up k =
+    emptied : IsEmptied n w
+    emptied =
         half_begins N some x y (unsent x.end) (unsent y.end) (omega arith) (omega arith)
-        b.facts.few_user b.facts.few_network up k
+        b.facts.few_user b.facts.few_network
         (λ o p. record {
           m = n + 8;
           coming = inl (both_open true o p (λ _. refl) (λ _. refl));
@@ -203,17 +181,8 @@ module _ (N : ℕ) (some : 1 ≤ N) where
               let c = unsent_y in let most = f.most in omega (arith, a, c, most);
         })
 
-    ends : (moves : List Move) → AreOwn Whole moves w → Ends moves
-    ends moves own =
-        let e = emptied false (λ no. cc) in
-        let back = returns e.m e.coming in
-        let few = back.few moves own in
-        let most = e.most in
-        record { few = omega (arith, few, most); agreed = λ rests. back.agreed moves own rests }
-
-  pub emptied_at : (up : Bool) (n : ℕ) (x y : Station) → Begins n (at x y [] [])
-      → (up ≡ true → AreWanting x.end y.end) → IsEmptied up n (at x y [] [])
-  emptied_at up n x y b k = emptied n x y b up k
+  pub emptied_at : (n : ℕ) (x y : Station) → Begins n (at x y [] []) → IsEmptied n (at x y [] [])
+  emptied_at n x y b = emptied n x y b
 
   pub drains_at : (n : ℕ) (x y : Station) → Begins n (at x y [] []) → is_7_or_8 x.end.state ≡ true
       → is_7_or_8 y.end.state ≡ true
@@ -222,144 +191,31 @@ module _ (N : ℕ) (some : 1 ≤ N) where
       → Draining false (n + 8) (at x y [] [])
   drains_at n x y b o p x_tries y_tries = both_open n x y b false o p x_tries y_tries
 
-  from_empty : (n : ℕ) (x y : Station) (moves : List Move) → Begins n (at x y [] [])
-      → AreOwn Whole moves (at x y [] []) → Comes N n (at x y [] []) moves
-  from_empty n x y moves b own =
-      let e = ends n x y b moves own in record { few = e.few; agreed = e.agreed }
-
-  pub delivered : (n : ℕ) (s : Side) (w : World) → Begins n w
-      → is_ok (happens Whole (record { side = s; event = Deliver }) w) ≡ true
-      → Begins (n - 1) (world_after w (happens Whole (record { side = s; event = Deliver }) w))
-  delivered n s w b ok =
-      let move : Move = record { side = s; event = Deliver } in
-      let d = runs.delivery_flows N n s w b.facts b.flow ok in
-      record {
-        facts = facts_after N move w b.facts;
-        preserved = run_consistent Whole (move ∷ []) w b.preserved;
-        flow = d.flow;
-        user_free = d.user_free b.user_free;
-        network_free = d.network_free b.network_free;
-      }
-
-  -- one more
-  comes_on : (n : ℕ) (s : Side) (w : World) (moves : List Move) → Begins n w
-      → is_ok (happens Whole (record { side = s; event = Deliver }) w) ≡ true
-      → Comes N (n - 1) (world_after w (happens Whole (record { side = s; event = Deliver }) w))
-      moves → Comes N n w (record { side = s; event = Deliver } ∷ moves)
-  comes_on n s w moves b ok rest =
-      let d = runs.delivery_flows N n s w b.facts b.flow ok in
-      let one = d.some in
-      let few = rest.few in
-      record { few = omega (arith, one, few); agreed = rest.agreed }
-
-  -- the other moves
-  abbrev Rest : List Move → Type 0
-  Rest moves = (n : ℕ) (w : World) → Begins n w → AreOwn Whole moves w → Comes N n w moves
-
-  first_delivered : (n : ℕ) (s : Side) (w : World) (moves : List Move) → Begins n w → Rest moves
-      → is_ok (happens Whole (record { side = s; event = Deliver }) w) ≡ true
-      → AreOwn Whole moves (world_after w (happens Whole (record { side = s; event = Deliver }) w))
-      → Comes N n w (record { side = s; event = Deliver } ∷ moves)
-  first_delivered n s w moves b rest ok own =
-      comes_on n s w moves b ok (rest (n - 1)
-      (world_after w (happens Whole (record { side = s; event = Deliver }) w))
-      (delivered n s w b ok) own)
-
-  -- while a frame is in transit, only deliveries are due
-  first_to_user : (n : ℕ) (s : Side) (event : PairEvent) (x y : Station) (frame : Flight)
-      (arriving to_network : List Flight) (moves : List Move)
-      → Begins n (at x y (frame ∷ arriving) to_network) → Rest moves
-      → is_due event (at x y (frame ∷ arriving) to_network) ≡ true
-      → is_ok (happens Whole (record { side = s; event = event })
-      (at x y (frame ∷ arriving) to_network)) ≡ true
-      → AreOwn Whole moves (world_after (at x y (frame ∷ arriving) to_network)
-      (happens Whole (record { side = s; event = event })
-      (at x y (frame ∷ arriving) to_network)))
-      → Comes N n (at x y (frame ∷ arriving) to_network)
-      (record { side = s; event = event } ∷ moves)
-  first_to_user n s Deliver x y frame arriving to_network moves b rest due ok own =
-      first_delivered n s (at x y (frame ∷ arriving) to_network) moves b rest ok own
-  first_to_user n s event x y frame arriving to_network moves b rest due ok own = cc
-
-  first_to_network : (n : ℕ) (s : Side) (event : PairEvent) (x y : Station) (frame : Flight)
-      (arriving : List Flight) (moves : List Move) → Begins n (at x y [] (frame ∷ arriving))
-      → Rest moves → is_due event (at x y [] (frame ∷ arriving)) ≡ true
-      → is_ok (happens Whole (record { side = s; event = event }) (at x y [] (frame ∷ arriving)))
-      ≡ true
-      → AreOwn Whole moves (world_after (at x y [] (frame ∷ arriving))
-      (happens Whole (record { side = s; event = event })
-      (at x y [] (frame ∷ arriving))))
-      → Comes N n (at x y [] (frame ∷ arriving)) (record { side = s; event = event } ∷ moves)
-  first_to_network n s Deliver x y frame arriving moves b rest due ok own =
-      first_delivered n s (at x y [] (frame ∷ arriving)) moves b rest ok own
-  first_to_network n s event x y frame arriving moves b rest due ok own = cc
-
-  comes : (moves : List Move) (n : ℕ) (x y : Station) (to_user to_network : List Flight)
-      → Begins n (at x y to_user to_network) → AreOwn Whole moves (at x y to_user to_network)
-      → Comes N n (at x y to_user to_network) moves
-  comes moves n x y [] [] b own = from_empty n x y moves b own
-  comes [] n x y (frame ∷ arriving) to_network b own = record {
-    few = omega arith;
-    agreed =
-        λ rests. let still =
-        rests_still x y (frame ∷ arriving) to_network rests in let none = still.to_user in cc;
-  }
-  comes [] n x y [] (frame ∷ arriving) b own = record {
-    few = omega arith;
-    agreed =
-        λ rests. let still =
-        rests_still x y [] (frame ∷ arriving) rests in let none = still.to_network in cc;
-  }
-  comes (move ∷ moves) n x y (frame ∷ arriving) to_network b own =
-      first_to_user n move.side move.event x y frame arriving to_network moves b
-      (λ m w begins rest. comes moves m w.user w.network w.to_user w.to_network begins rest)
-      own.0.due own.0.admitted own.1
-  comes (move ∷ moves) n x y [] (frame ∷ arriving) b own =
-      first_to_network n move.side move.event x y frame arriving moves b
-      (λ m w begins rest. comes moves m w.user w.network w.to_user w.to_network begins rest)
-      own.0.due own.0.admitted own.1
-
-  pub world_comes_back : (w : World) → Facts N w → IsConsistentWorld Whole w → IsFree w.user.end
-      → IsFree w.network.end → WorldComesBack Whole N w
-  world_comes_back w f preserved user_free network_free =
-      let b : Begins (most_deliveries w) w =
-      record {
+  -- where no own move is possible, the ends agree
+  pub rests_agree : (w : World) → Facts N w → IsConsistentWorld Whole w → IsFree w.user.end
+      → IsFree w.network.end → Rests Whole w → AreAgreed w
+  rests_agree w f preserved user_free network_free rests =
+      at_rest w.user w.network w.to_user w.to_network
+      (record {
         facts = f;
         preserved = preserved;
         flow = runs.flow_begins w f.holds preserved;
         user_free = user_free;
         network_free = network_free;
-      } in
-      record {
-        few =
-            λ moves own. let few =
-            (comes moves (most_deliveries w) w.user w.network w.to_user w.to_network b own).few in
-            omega (arith, few);
-        agreed =
-            λ moves own rests.
-            (comes moves (most_deliveries w) w.user w.network w.to_user w.to_network b own).agreed
-            rests;
-      }
-
--- ---- After every run, on whole numbers and on tags.
-
-on_tags : (N : ℕ) (w : World) → IsInvariant w → IsConsistentWorld Whole w → WorldComesBack Whole N w
-    → WorldComesBack Tagged N (tag_world w)
-on_tags N w i preserved c = record {
-  few = λ moves own.
-      let l = left_on_tags w in
-      let f = runs.frames_on_tags w in
-      let few = c.few moves (are_own_by_tags moves w i preserved own) in
-      omega (arith, l, f, few);
-  agreed = λ moves own rests.
-      let now = run Whole moves w in
-      let same : run Tagged moves (tag_world w) ≡ tag_world now = ran_on_tags moves w i preserved in
-      let still : Rests Whole now =
-      rests_by_tags now (each_run_preserves moves w i)
-      (run_consistent Whole moves w preserved) (subst (λ v. Rests Tagged v) same rests) in
-      subst AreAgreed (sym same)
-      (agreed_on_tags now (c.agreed moves (are_own_by_tags moves w i preserved own) still));
-}
+      })
+      rests
+    where
+      at_rest : (x y : Station) (to_user to_network : List Flight)
+          → Begins (most_deliveries w) (at x y to_user to_network)
+          → Rests Whole (at x y to_user to_network) → AreAgreed (at x y to_user to_network)
+      at_rest x y [] [] b rests =
+          let e = emptied (most_deliveries w) x y b in
+          agreed_at_rest N e.m (at x y [] []) e.coming b.facts b.preserved rests
+      at_rest x y (frame ∷ rest) to_network b rests =
+          let still = rests_still x y (frame ∷ rest) to_network rests in
+          let none = still.to_user in cc
+      at_rest x y [] (frame ∷ rest) b rests =
+          let still = rests_still x y [] (frame ∷ rest) rests in let none = still.to_network in cc
 
 pub free_world_by_tags : (N : ℕ) (w : World) → IsFreeWorld N (tag_world w) → IsFreeWorld N w
 free_world_by_tags N w a = record {
@@ -368,40 +224,3 @@ free_world_by_tags N w a = record {
   user_retries = a.user_retries;
   network_retries = a.network_retries;
 }
-
-module _ (N : ℕ) (some : 1 ≤ N) (user network : Parameters) (user_small : user.k ≤ 127)
-    (network_small : network.k ≤ 127) (user_some : 1 ≤ user.k) (network_some : 1 ≤ network.k)
-    (moves : List Move) where
-  abbrev reached : World
-  reached = run Whole moves (new_world user network)
-
-  holds : IsInvariant reached
-  holds = runs.holds user network user_small network_small user_some network_some moves
-
-  preserved : IsConsistentWorld Whole reached
-  preserved = runs.preserved user network user_small network_small user_some network_some moves
-
-  back_whole : IsFreeWorld N reached → WorldComesBack Whole N reached
-  back_whole a =
-      let c =
-      world_comes_back N some reached
-      (runs.facts user network user_small network_small user_some network_some moves N
-      a.user_retries a.network_retries) preserved a.user_free a.network_free in
-      c
-
-  comes_back_by : (r : Reading) → IsFreeWorld N (run r moves (new_world user network))
-      → WorldComesBack r N (run r moves (new_world user network))
-  comes_back_by Whole a = back_whole a
-  comes_back_by Tagged a =
-      let same : run Tagged moves (new_world user network) ≡ tag_world reached =
-      reached_tags user network user_small network_small moves in
-      subst (λ w. WorldComesBack Tagged N w) (sym same)
-      (on_tags N reached holds preserved
-      (back_whole (free_world_by_tags N reached (subst (λ w. IsFreeWorld N w) same a))))
-
-pub every_world_comes_back : (r : Reading) (n200 : ℕ) → 1 ≤ n200 → (user network : Parameters)
-    → user.k ≤ 127 → network.k ≤ 127 → 1 ≤ user.k → 1 ≤ network.k → (moves : List Move)
-    → IsFreeWorld n200 (run r moves (new_world user network))
-    → WorldComesBack r n200 (run r moves (new_world user network))
-every_world_comes_back r n200 some user network u n us ns moves a =
-    comes_back_by n200 some user network u n us ns moves r a

@@ -2,9 +2,8 @@
 use Rattle.std.proofs.Common.{◌≡◌, ◌⊎◌, inl, inr, ℕ, zero, suc, ◌+◌, ◌*◌, ◌-◌, ◌≤◌, ◌==◌, nat_lt, ◌&&◌, Bool, true, false, List, [], ◌∷◌, ◌++◌, length, length-append, refl, sym, ap, subst, ◌∙◌, arith}
 use Rattle.std.proofs.lemmas.Bool.Decides.{nat_tests}
 use Rattle.lapd_frame.specs.declared.Side.TheVariants as side
-use Rattle.lapd_mod128.specs.Counting.{Whole}
+use Rattle.lapd_mod128.specs.Counting.{Whole, steps}
 use Rattle.lapd_supervision.specs.StateVariables.{may_send, StateVariables}
-use Rattle.lapd_mod128.specs.Counting.{steps}
 use Rattle.lapd_link_definition.specs.declared.state.State.{State}
 use Rattle.lapd_link_definition.specs.declared.state.State.TheVariants.{TeiAssigned, AwaitingEstablishment, AwaitingRelease, MultipleFrameEstablished, TimerRecovery}
 use Rattle.lapd_link_definition.specs.EndOfStep.{is_7_or_8}
@@ -24,15 +23,15 @@ use Rattle.lapd_recovery_laws.proofs.HalfSteps.{dm, disc, sabme_in_5, disc_in_5,
 use Rattle.lapd_recovery_laws.proofs.LoneSteps.{is_ignored, sabme, ua, established, sabme_in_4, IsNew, is_new}
 use Rattle.lapd_recovery_laws.proofs.Lost.{at}
 use Rattle.lapd_recovery_laws.proofs.SendsOn.{AreIgnored, IsUpWith, sabme_in_7_8, IsCleared, sendable_in, sendable, sendable_few, ua_opens}
-use Rattle.lapd_recovery_laws.proofs.Situations.{twice, attempt, gone, again_in, again, polls_in, polls, by_peer_5, Asks5, by_peer_6, Asks6, Accepted, Crossed, Refused, IsAnswer, EndInAnswer, Parting, alone_5, asks_6, accepted, crossed, refused, parting, closed, NoneReleases, not_both, false_if, ComesOn, up_drains}
+use Rattle.lapd_recovery_laws.proofs.Situations.{twice, attempt, gone, again_in, again, polls_in, polls, by_peer_5, Asks5, by_peer_6, Asks6, Accepted, Crossed, Refused, IsAnswer, EndInAnswer, Parting, alone_5, asks_6, accepted, crossed, refused, parting, closed, ComesOn, up_drains}
 use Rattle.lapd_recovery_laws.proofs.Transitions.{timers_in, empty_4_too, state_of, by_user, by_network, open_peer_6, closed_peer_6, none_left}
 
-module _ (N : ℕ) (some_retries : 1 ≤ N) (up : Bool) where
+module _ (N : ℕ) (some_retries : 1 ≤ N) where
   -- ---- The SABME of the user is delivered.
 
   module _ (n : ℕ) (x y : Station) where
     abbrev after_sabme : World
-    after_sabme = by_network N some_retries up Deliver x y [] (sabme ∷ [])
+    after_sabme = by_network Deliver x y [] (sabme ∷ [])
 
     -- y was in state 4: it has nothing to send
     new_is_up : (e : End) → IsNew e → IsUpWith [] e
@@ -55,10 +54,9 @@ module _ (N : ℕ) (some_retries : 1 ≤ N) (up : Bool) where
       off = λ _. new.off;
     }
 
-    asks5_at_4 : Asks5 N n (at x y [] (sabme ∷ []))
-        → (up ≡ true → NoneReleases N (at x y [] (sabme ∷ []))) → y.end.state ≡ TeiAssigned
-        → length y.end.given ≡ y.end.next → y.end.t200 ≡ false → ComesOn N up n after_sabme
-    asks5_at_4 s k is empty off =
+    asks5_at_4 : Asks5 N n (at x y [] (sabme ∷ [])) → y.end.state ≡ TeiAssigned
+        → length y.end.given ≡ y.end.next → y.end.t200 ≡ false → ComesOn N n after_sabme
+    asks5_at_4 s is empty off =
         let v =
         seen_after_frame y sabme [] [] (established y.end) (ua ∷ [])
         (sabme_in_4 y.end is empty) in
@@ -76,13 +74,12 @@ module _ (N : ℕ) (some_retries : 1 ≤ N) (up : Bool) where
             to_user = v.outgoing;
             to_network = v.incoming;
             most = omega (arith, le, none, vs);
-          }) (λ is. (k is).user)));
+          })));
         }
 
-    asks5_at_7_8 : Asks5 N n (at x y [] (sabme ∷ []))
-        → (up ≡ true → NoneReleases N (at x y [] (sabme ∷ []))) → is_7_or_8 y.end.state ≡ true
-        → ComesOn N up n after_sabme
-    asks5_at_7_8 s k opened =
+    asks5_at_7_8 : Asks5 N n (at x y [] (sabme ∷ [])) → is_7_or_8 y.end.state ≡ true
+        → ComesOn N n after_sabme
+    asks5_at_7_8 s opened =
         let o = sabme_in_7_8 y [] [] opened in
         let le = s.most in
         let few = o.fewer in
@@ -96,13 +93,12 @@ module _ (N : ℕ) (some_retries : 1 ≤ N) (up : Bool) where
             to_user = o.outgoing;
             to_network = o.incoming;
             most = omega (arith, le, few, count);
-          }) (λ is. (k is).user)));
+          })));
         }
 
     asks5_at_5 : Asks5 N n (at x y [] (sabme ∷ []))
-        → (up ≡ true → NoneReleases N (at x y [] (sabme ∷ [])))
-        → y.end.state ≡ AwaitingEstablishment → ComesOn N up n after_sabme
-    asks5_at_5 s k is =
+        → y.end.state ≡ AwaitingEstablishment → ComesOn N n after_sabme
+    asks5_at_5 s is =
         let v = seen_after_frame y sabme [] [] y.end (ua ∷ []) (sabme_in_5 y.end is) in
         let le = s.most in
         let all =
@@ -120,17 +116,12 @@ module _ (N : ℕ) (some_retries : 1 ≤ N) (up : Bool) where
                 to_user = v.outgoing;
                 to_network = v.incoming;
                 most = omega (arith, le, all, same, same_attempt, same_gone);
-              })
-              (λ up_is. (
-                (k up_is).user,
-                ap (λ (e : End). e.release_pending) v.end ∙ (k up_is).network is,
-              ))));
+              })));
         }
 
-    asks5_at_6 : Asks5 N n (at x y [] (sabme ∷ []))
-        → (up ≡ true → NoneReleases N (at x y [] (sabme ∷ []))) → y.end.state ≡ AwaitingRelease
-        → ComesOn N up n after_sabme
-    asks5_at_6 s k is =
+    asks5_at_6 : Asks5 N n (at x y [] (sabme ∷ [])) → y.end.state ≡ AwaitingRelease
+        → ComesOn N n after_sabme
+    asks5_at_6 s is =
         let v = seen_after_frame y sabme [] [] y.end (dm ∷ []) (sabme_in_6 y.end is) in
         let le = s.most in
         let only =
@@ -146,23 +137,21 @@ module _ (N : ℕ) (some_retries : 1 ≤ N) (up : Bool) where
                 to_user = v.outgoing;
                 to_network = v.incoming;
                 most = omega (arith, le, only, same_attempt);
-              })
-              (false_if up (λ up_is. (k up_is).not_6 is))));
+              })));
         }
 
     pub asks5_delivered : Asks5 N n (at x y [] (sabme ∷ []))
-        → (up ≡ true → NoneReleases N (at x y [] (sabme ∷ [])))
-        → IsInvariant (at x y [] (sabme ∷ [])) → HasTimersOfState y.end → ComesOn N up n after_sabme
-    asks5_delivered s k i has = by_state y.end.state refl
+        → IsInvariant (at x y [] (sabme ∷ [])) → HasTimersOfState y.end → ComesOn N n after_sabme
+    asks5_delivered s i has = by_state y.end.state refl
       where
-        by_state : (state : State) → y.end.state ≡ state → ComesOn N up n after_sabme
+        by_state : (state : State) → y.end.state ≡ state → ComesOn N n after_sabme
         by_state TeiAssigned is =
-            asks5_at_4 s k is (empty_4_too (at x y [] (sabme ∷ [])) i is)
+            asks5_at_4 s is (empty_4_too (at x y [] (sabme ∷ [])) i is)
             (timers_in TeiAssigned y.end has is).0
-        by_state AwaitingEstablishment is = asks5_at_5 s k is
-        by_state AwaitingRelease is = asks5_at_6 s k is
-        by_state MultipleFrameEstablished is = asks5_at_7_8 s k (ap is_7_or_8 is)
-        by_state TimerRecovery is = asks5_at_7_8 s k (ap is_7_or_8 is)
+        by_state AwaitingEstablishment is = asks5_at_5 s is
+        by_state AwaitingRelease is = asks5_at_6 s is
+        by_state MultipleFrameEstablished is = asks5_at_7_8 s (ap is_7_or_8 is)
+        by_state TimerRecovery is = asks5_at_7_8 s (ap is_7_or_8 is)
 
   -- ---- The DISC of the user is delivered.
 
@@ -179,18 +168,18 @@ module _ (N : ℕ) (some_retries : 1 ≤ N) (up : Bool) where
 
   module _ (n : ℕ) (x y : Station) (back : List Flight) where
     abbrev after_disc : World
-    after_disc = by_network N some_retries up Deliver x y back (disc ∷ [])
+    after_disc = by_network Deliver x y back (disc ∷ [])
 
     abbrev Left : End → Flight → Type 0
     Left e f =
         Sees (left_by (seeing y (disc ∷ []) back)
         (acts Whole side.User Deliver (seeing y (disc ∷ []) back))) e [] (back ++ f ∷ [])
 
-    parts : Asks6 N n (at x y back (disc ∷ [])) → up ≡ false → (e : End) (f : Flight) → IsAnswer N f
+    parts : Asks6 N n (at x y back (disc ∷ [])) → (e : End) (f : Flight) → IsAnswer N f
         → Left e f → is_7_or_8 e.state ≡ false
         → attempt e + 2 * unsent e ≤ by_peer_6 N y.end.state (attempt y.end + 2 * unsent y.end)
-        → ComesOn N up n after_disc
-    parts s k e f answer v closed_state less =
+        → ComesOn N n after_disc
+    parts s e f answer v closed_state less =
         let le = s.most in
         let len = ap (λ fs. length fs) v.outgoing in
         let more = length-append back (f ∷ []) in
@@ -204,49 +193,48 @@ module _ (N : ℕ) (some_retries : 1 ≤ N) (up : Bool) where
             to_user = subst (EndInAnswer N) (sym v.outgoing) (parting_more back f s.ignored answer);
             to_network = v.incoming;
             most = omega (arith, le, less, len, more, same, same_attempt);
-          }) k));
+          })));
         }
 
-    pub asks6_delivered : Asks6 N n (at x y back (disc ∷ [])) → up ≡ false
-        → ComesOn N up n after_disc
-    asks6_delivered s k = by_state y.end.state refl
+    pub asks6_delivered : Asks6 N n (at x y back (disc ∷ [])) → ComesOn N n after_disc
+    asks6_delivered s = by_state y.end.state refl
       where
-        by_state : (state : State) → y.end.state ≡ state → ComesOn N up n after_disc
+        by_state : (state : State) → y.end.state ≡ state → ComesOn N n after_disc
         by_state TeiAssigned is =
             let all =
-            closed_peer_6 N some_retries up y.end.state (attempt y.end + 2 * unsent y.end)
+            closed_peer_6 N some_retries y.end.state (attempt y.end + 2 * unsent y.end)
             (ap is_7_or_8 is) in
-            parts s k y.end dm (inr refl)
+            parts s y.end dm (inr refl)
             (seen_after_frame y disc [] back y.end (dm ∷ []) (disc_in_4 y.end is)) (ap is_7_or_8 is)
             (omega (arith, all))
         by_state AwaitingEstablishment is =
             let all =
-            closed_peer_6 N some_retries up y.end.state (attempt y.end + 2 * unsent y.end)
+            closed_peer_6 N some_retries y.end.state (attempt y.end + 2 * unsent y.end)
             (ap is_7_or_8 is) in
-            parts s k y.end dm (inr refl)
+            parts s y.end dm (inr refl)
             (seen_after_frame y disc [] back y.end (dm ∷ []) (disc_in_5 y.end is)) (ap is_7_or_8 is)
             (omega (arith, all))
         by_state AwaitingRelease is =
             let all =
-            closed_peer_6 N some_retries up y.end.state (attempt y.end + 2 * unsent y.end)
+            closed_peer_6 N some_retries y.end.state (attempt y.end + 2 * unsent y.end)
             (ap is_7_or_8 is) in
-            parts s k y.end ua (inl refl)
+            parts s y.end ua (inl refl)
             (seen_after_frame y disc [] back y.end (ua ∷ []) (disc_in_6 y.end is)) (ap is_7_or_8 is)
             (omega (arith, all))
         by_state MultipleFrameEstablished is =
-            parts s k (disconnected y.end) ua (inl refl)
+            parts s (disconnected y.end) ua (inl refl)
             (seen_after_frame y disc [] back (disconnected y.end) (ua ∷ [])
             (disc_in_7_8 y.end (ap is_7_or_8 is))) refl (omega arith)
         by_state TimerRecovery is =
-            parts s k (disconnected y.end) ua (inl refl)
+            parts s (disconnected y.end) ua (inl refl)
             (seen_after_frame y disc [] back (disconnected y.end) (ua ∷ [])
             (disc_in_7_8 y.end (ap is_7_or_8 is))) refl (omega arith)
 
   -- the user ignores a frame before the answer
   pub asks6_ignores : (n : ℕ) (x y : Station) (frame : Flight) (rest : List Flight)
-      → Asks6 N n (at x y (frame ∷ rest) (disc ∷ [])) → up ≡ false
-      → ComesOn N up n (by_user N some_retries up Deliver x y (frame ∷ rest) (disc ∷ []))
-  asks6_ignores n x y frame rest s k =
+      → Asks6 N n (at x y (frame ∷ rest) (disc ∷ []))
+      → ComesOn N n (by_user Deliver x y (frame ∷ rest) (disc ∷ []))
+  asks6_ignores n x y frame rest s =
       let v =
       seen_after_frame x frame rest (disc ∷ []) x.end []
       (ignored_if_closed x.end frame.control frame.role (ap is_7_or_8 s.user) s.ignored.0)
@@ -261,25 +249,25 @@ module _ (N : ℕ) (some_retries : 1 ≤ N) (up : Bool) where
               ignored = subst AreIgnored (sym v.incoming) s.ignored.1;
               to_network = v.outgoing;
               most = omega (arith, le, len);
-            }) k));
+            })));
       }
 
   -- ---- An answer is delivered to the user in state 6.
 
   pub parting_moves : (n : ℕ) (x y : Station) (frame : Flight) (rest : List Flight)
-      → Parting N n (at x y (frame ∷ rest) []) → up ≡ false → length x.end.given ≡ x.end.next
-      → ComesOn N up n (by_user N some_retries up Deliver x y (frame ∷ rest) [])
-  parting_moves n x y frame [] s k empty = by_answer s.to_user
+      → Parting N n (at x y (frame ∷ rest) []) → length x.end.given ≡ x.end.next
+      → ComesOn N n (by_user Deliver x y (frame ∷ rest) [])
+  parting_moves n x y frame [] s empty = by_answer s.to_user
     where
       done : Sees (left_by (seeing x (frame ∷ []) [])
           (acts Whole side.User Deliver (seeing x (frame ∷ []) []))) (released x.end s.user) []
-          [] → ComesOn N up n (by_user N some_retries up Deliver x y (frame ∷ []) [])
+          [] → ComesOn N n (by_user Deliver x y (frame ∷ []) [])
       done v =
           let le = s.most in
-          let over : attempt (by_user N some_retries up Deliver x y (frame ∷ []) []).user.end ≡ 0 =
+          let over : attempt (by_user Deliver x y (frame ∷ []) []).user.end ≡ 0 =
           ap attempt v.end in
           let same = ap unsent v.end in
-          let none = none_left N some_retries up x.end empty in
+          let none = none_left x.end empty in
           record {
             some = omega (arith, le);
             arriving = inr (inl (closed (record {
@@ -291,11 +279,11 @@ module _ (N : ℕ) (some_retries : 1 ≤ N) (up : Bool) where
               leaves = 0;
               both = λ in_5 its_in_5. absurd (let is = ap state_of v.end in cc);
               most = omega (arith, le, over, same, none);
-            }) (λ is. absurd (not_both up k is))));
+            })));
           }
 
       by_answer : IsAnswer N frame
-          → ComesOn N up n (by_user N some_retries up Deliver x y (frame ∷ []) [])
+          → ComesOn N n (by_user Deliver x y (frame ∷ []) [])
       by_answer (inl is) =
           done (subst (λ g. Sees (left_by (seeing x (g ∷ []) [])
           (acts Whole side.User Deliver (seeing x (g ∷ []) []))) (released x.end s.user)
@@ -306,7 +294,7 @@ module _ (N : ℕ) (some_retries : 1 ≤ N) (up : Bool) where
           (acts Whole side.User Deliver (seeing x (g ∷ []) []))) (released x.end s.user)
           [] []) (sym is)
           (seen_after_frame x dm [] [] (released x.end s.user) [] (dm_in_6 x.end s.user)))
-  parting_moves n x y frame (g ∷ gs) s k empty =
+  parting_moves n x y frame (g ∷ gs) s empty =
       let v =
       seen_after_frame x frame (g ∷ gs) [] x.end []
       (ignored_if_closed x.end frame.control frame.role (ap is_7_or_8 s.user) s.to_user.0)
@@ -322,19 +310,19 @@ module _ (N : ℕ) (some_retries : 1 ≤ N) (up : Bool) where
               to_user = subst (EndInAnswer N) (sym v.incoming) s.to_user.1;
               to_network = v.outgoing;
               most = omega (arith, le, len);
-            }) k));
+            })));
       }
 
   -- ---- The DM is delivered to the user in state 5.
 
-  pub refused_moves : (n : ℕ) (x y : Station) → Refused N n (at x y (dm ∷ []) []) → up ≡ false
-      → unsent y.end ≡ 0 → ComesOn N up n (by_user N some_retries up Deliver x y (dm ∷ []) [])
-  refused_moves n x y s k none =
+  pub refused_moves : (n : ℕ) (x y : Station) → Refused N n (at x y (dm ∷ []) [])
+      → unsent y.end ≡ 0 → ComesOn N n (by_user Deliver x y (dm ∷ []) [])
+  refused_moves n x y s none =
       let v = seen_after_frame x dm [] [] (abandoned x.end s.user) [] (dm_in_5 x.end s.user) in
       let le = s.most in
-      let over : attempt (by_user N some_retries up Deliver x y (dm ∷ []) []).user.end ≡ 0 =
+      let over : attempt (by_user Deliver x y (dm ∷ []) []).user.end ≡ 0 =
       ap attempt v.end in
-      let dropped : unsent (by_user N some_retries up Deliver x y (dm ∷ []) []).user.end ≡ unsent
+      let dropped : unsent (by_user Deliver x y (dm ∷ []) []).user.end ≡ unsent
       (abandoned x.end s.user) =
       ap unsent v.end in
       record {
@@ -348,7 +336,7 @@ module _ (N : ℕ) (some_retries : 1 ≤ N) (up : Bool) where
           leaves = 0;
           both = λ in_5 its_in_5. absurd (let is = s.network in cc);
           most = omega (arith, le, over, dropped, none);
-        }) (λ is. absurd (not_both up k is))));
+        })));
       }
 
   -- ---- The UA is delivered to the user in state 5.
@@ -366,11 +354,11 @@ module _ (N : ℕ) (some_retries : 1 ≤ N) (up : Bool) where
 
   -- with a release pending, the DISC is sent
   leaves_now : (n : ℕ) (x y : Station) (rest : List Flight)
-      (is : x.end.state ≡ AwaitingEstablishment) → x.end.release_pending ≡ true → up ≡ false
+      (is : x.end.state ≡ AwaitingEstablishment) → x.end.release_pending ≡ true
       → AreIgnored rest
       → length rest + 3 + by_peer_6 N y.end.state (attempt y.end + 2 * unsent y.end) ≤ n
-      → ComesOn N up n (by_user N some_retries up Deliver x y (ua ∷ rest) [])
-  leaves_now n x y rest is pending k ignored most =
+      → ComesOn N n (by_user Deliver x y (ua ∷ rest) [])
+  leaves_now n x y rest is pending ignored most =
       let v =
       seen_after_frame x ua rest [] (leaving x.end is) (disc ∷ [])
       (ua_in_5 x.end is pending) in
@@ -383,19 +371,18 @@ module _ (N : ℕ) (some_retries : 1 ≤ N) (up : Bool) where
               ignored = subst AreIgnored (sym v.incoming) ignored;
               to_network = v.outgoing;
               most = omega (arith, most, len);
-            }) k));
+            })));
       }
 
   pub accepted_moves : (n : ℕ) (x y : Station) (fs : List Flight)
-      → (s : Accepted N n (at x y (ua ∷ fs) [])) → (up ≡ true → x.end.release_pending ≡ false)
-      → s.frames ≡ fs
+      → (s : Accepted N n (at x y (ua ∷ fs) [])) → s.frames ≡ fs
       → (x.end.state ≡ AwaitingEstablishment → x.end.layer3_initiated ≡ true → unsent x.end ≡ 0)
       → AreClear x.end
       → IsTimedIn x.end.state x.end.t200 x.end.window.vs x.end.window.va x.end.window.peer_busy
-      → IsInvariant (by_user N some_retries up Deliver x y (ua ∷ fs) [])
-      → AreSettledEnds (by_user N some_retries up Deliver x y (ua ∷ fs) [])
-      → ComesOn N up n (by_user N some_retries up Deliver x y (ua ∷ fs) [])
-  accepted_moves n x y fs s k same empty clear timed i settled =
+      → IsInvariant (by_user Deliver x y (ua ∷ fs) [])
+      → AreSettledEnds (by_user Deliver x y (ua ∷ fs) [])
+      → ComesOn N n (by_user Deliver x y (ua ∷ fs) [])
+  accepted_moves n x y fs s same empty clear timed i settled =
       by_pending x.end.release_pending refl
     where
       up_now : IsUpWith fs y.end
@@ -405,19 +392,18 @@ module _ (N : ℕ) (some_retries : 1 ≤ N) (up : Bool) where
       len = ap (λ l. length l) same
 
       by_pending : (b : Bool) → x.end.release_pending ≡ b
-          → ComesOn N up n (by_user N some_retries up Deliver x y (ua ∷ fs) [])
+          → ComesOn N n (by_user Deliver x y (ua ∷ fs) [])
       by_pending true pending =
           let le = s.most in
           let bit : twice x.end.release_pending ≡ 2 = ap twice pending in
           let none =
-          open_peer_6 N some_retries up y.end.state (attempt y.end + 2 * unsent y.end)
+          open_peer_6 N some_retries y.end.state (attempt y.end + 2 * unsent y.end)
           (ap is_7_or_8 up_now.in_7) in
-          leaves_now n x y fs s.user pending (false_if up (λ up_is. let stays = k up_is in cc))
-          up_now.messages_are.ignored (omega (arith, le, bit, none, len))
+          leaves_now n x y fs s.user pending up_now.messages_are.ignored (omega (arith, le, bit, none, len))
       by_pending false stays =
           let le = s.most in
           let o = ua_opens x (is_cleared x.end clear timed s.user stays) (empty s.user) fs [] in
-          let w = by_user N some_retries up Deliver x y (ua ∷ fs) [] in
+          let w = by_user Deliver x y (ua ∷ fs) [] in
           let same_world : w ≡ at w.user y fs o.frames =
           ap (λ l. at w.user y l w.to_network) o.incoming
           ∙ ap (λ l. at w.user y fs l) o.outgoing in
@@ -502,28 +488,26 @@ module _ (N : ℕ) (some_retries : 1 ≤ N) (up : Bool) where
 
   -- messages are sent only if none is outstanding
   pub crossed_moves : (n : ℕ) (x y : Station) → Crossed N n (at x y (ua ∷ []) [])
-      → (up ≡ true → (x.end.release_pending ≡ false) × (y.end.release_pending ≡ false))
       → (x.end.state ≡ AwaitingEstablishment → x.end.layer3_initiated ≡ true → unsent x.end ≡ 0)
       → AreClear x.end
       → IsTimedIn x.end.state x.end.t200 x.end.window.vs x.end.window.va x.end.window.peer_busy
-      → AreSettledEnds (by_user N some_retries up Deliver x y (ua ∷ []) [])
-      → ComesOn N up n (by_user N some_retries up Deliver x y (ua ∷ []) [])
-  crossed_moves n x y s k empty clear timed settled = by_pending x.end.release_pending refl
+      → AreSettledEnds (by_user Deliver x y (ua ∷ []) [])
+      → ComesOn N n (by_user Deliver x y (ua ∷ []) [])
+  crossed_moves n x y s empty clear timed settled = by_pending x.end.release_pending refl
     where
       by_pending : (b : Bool) → x.end.release_pending ≡ b
-          → ComesOn N up n (by_user N some_retries up Deliver x y (ua ∷ []) [])
+          → ComesOn N n (by_user Deliver x y (ua ∷ []) [])
       by_pending true pending =
           let most = s.most in
           let bit : twice x.end.release_pending ≡ 2 = ap twice pending in
           let all =
-          closed_peer_6 N some_retries up y.end.state (attempt y.end + 2 * unsent y.end)
+          closed_peer_6 N some_retries y.end.state (attempt y.end + 2 * unsent y.end)
           (ap is_7_or_8 s.network) in
-          leaves_now n x y [] s.user pending (false_if up (λ up_is. let stays = (k up_is).0 in cc))
-          tt (omega (arith, most, bit, all))
+          leaves_now n x y [] s.user pending tt (omega (arith, most, bit, all))
       by_pending false stays =
           let most = s.most in
           let o = ua_opens x (is_cleared x.end clear timed s.user stays) (empty s.user) [] [] in
-          let w = by_user N some_retries up Deliver x y (ua ∷ []) [] in
+          let w = by_user Deliver x y (ua ∷ []) [] in
           let few = o.fewer in
           let len = ap (λ fs. length fs) o.outgoing in
           let all = sendable_few (x.end.window.vs == x.end.window.va) (unsent x.end) in
@@ -543,5 +527,5 @@ module _ (N : ℕ) (some_retries : 1 ≤ N) (up : Bool) where
               to_user = o.incoming;
               ignored = subst AreIgnored (sym o.outgoing) o.up.messages_are.ignored;
               most = omega (arith, most, few, all, len, room);
-            }) (λ is. (k is).1)));
+            })));
           }

@@ -26,7 +26,7 @@ use Rattle.lapd_recovery_laws.proofs.EndSends.{kinds_append}
 use Rattle.lapd_recovery_laws.proofs.Expiries.{unready_append, none_unready, waits_in, asked_by, waits, waits_less, IsClean, Expects, Expiries, expiries_turned, polls_out}
 use Rattle.lapd_recovery_laws.proofs.LostMoves.{moved_user}
 use Rattle.lapd_recovery_laws.proofs.OneMoreFrame.{seeing}
-use Rattle.lapd_recovery_laws.proofs.PeerReleased.{t200_runs, t203_runs, ok_of_side}
+use Rattle.lapd_recovery_laws.proofs.OwnBySide.{t200_runs, t203_runs, ok_of_side}
 use Rattle.lapd_recovery_laws.proofs.Proceeding.{none_rejected}
 use Rattle.lapd_recovery_laws.proofs.StaysOpen.{Lasts, lasts_swapped, SendsPoll, awaits_none, t200_polls, t203_polls}
 use Rattle.lapd_recovery_laws.proofs.Transitions.{timers_in}

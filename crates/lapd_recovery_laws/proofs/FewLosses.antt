@@ -1,5 +1,5 @@
 -- Few losses: both ends stay in states 7 and 8, and no message is dropped.
-use Rattle.std.proofs.Common.{◌≡◌, ◌⊎◌, inl, inr, ℕ, ◌+◌, ◌≤◌, true, false, List, refl, sym, ap, subst, ◌∙◌, arith, ◌*◌}
+use Rattle.std.proofs.Common.{◌≡◌, ◌⊎◌, inl, inr, ℕ, ◌+◌, ◌≤◌, ◌||◌, true, false, List, [], ◌∷◌, refl, sym, ap, subst, ◌∙◌, arith, ◌*◌}
 use Rattle.std.proofs.lemmas.Nat.{mul-le}
 use Rattle.lapd_frame.specs.declared.Side.{Side}
 use Rattle.lapd_mod128.specs.Counting.{Reading, Whole, Tagged}
@@ -12,31 +12,28 @@ use Rattle.lapd_pair_laws.specs.Invariant.{IsInvariant}
 use Rattle.lapd_pair_laws.specs.Kinds.{Kind, kinds}
 use Rattle.lapd_pair_laws.specs.Move.{PairEvent, Deliver, Expire200, Expire203, Move}
 use Rattle.lapd_pair_laws.specs.Tagged.{tag_world}
-use Rattle.lapd_pair_laws.specs.World.{World, new_world, run, left}
+use Rattle.lapd_pair_laws.specs.World.{World, new_world, happens, world_after, run, left}
 use Rattle.lapd_pair_laws.proofs.Consistency.{run_consistent}
-use Rattle.lapd_pair_laws.proofs.Reached.{reached_tags}
-use Rattle.lapd_pair_laws.proofs.TaggedMoves.{left_on_tags}
-use Rattle.lapd_pair_laws.proofs.Whole.{each_run_preserves}
+use Rattle.lapd_pair_laws.proofs.TaggedMoves.{left_on_tags, safe_on_tags}
+use Rattle.lapd_pair_laws.proofs.Whole.{each_move_preserves, each_run_preserves}
 use Rattle.lapd_pair_laws.proofs.Worlds.{safe_by_invariant}
 use Rattle.lapd_pair_laws.proofs.Settles.{side_served}
 use Rattle.lapd_recovery_laws.specs.Agreed.{AreLevel, AreReleased}
-use Rattle.lapd_recovery_laws.specs.FewLosses.{t203s, most_t200s, most_open_line_moves, Outlasts, OutlastLosses, StaysOpen, most_open_moves, KeepsAll}
+use Rattle.lapd_recovery_laws.specs.FewLosses.{t203s, most_t200s, most_open_line_moves, Outlasts, OutlastLosses, StaysOpen, most_open_moves, KeepsAll, IsUp}
 use Rattle.lapd_recovery_laws.specs.Deliveries.{frames}
 use Rattle.lapd_recovery_laws.specs.EarlyTimers.{AreLineMoves}
-use Rattle.lapd_recovery_laws.specs.Losses.{losses}
-use Rattle.lapd_recovery_laws.specs.OpenLine.{IsUp}
+use Rattle.lapd_recovery_laws.specs.Losses.{is_loss, AreOwnOrLosses, losses}
 use Rattle.lapd_recovery_laws.specs.Own.{IsOwn, Rests}
 use Rattle.lapd_recovery_laws.proofs.AfterOutage.{free_by_tags}
 use Rattle.lapd_recovery_laws.proofs.AnyOrder.{Draining, own_moves_on}
 use Rattle.lapd_recovery_laws.proofs.CountedMoves.{after, Keeps, IsWeight, moves_counted}
-use Rattle.lapd_recovery_laws.proofs.DespiteLosses.{own_or_losses_by_tags}
 use Rattle.lapd_recovery_laws.proofs.DespiteTimers.{despite_timers, line_moves_by_tags}
 use Rattle.lapd_recovery_laws.proofs.EveryWorld.{drains_at}
-use Rattle.lapd_recovery_laws.proofs.OpenAfterRuns.{up_on_tags}
 use Rattle.lapd_recovery_laws.proofs.OpenMoves.{open_moves_counted}
 use Rattle.lapd_recovery_laws.proofs.OutageWorlds.{Facts}
-use Rattle.lapd_recovery_laws.proofs.OwnOnTags.{rests_by_tags, ran_on_tags}
+use Rattle.lapd_recovery_laws.proofs.OwnOnTags.{due_on_tags, ok_on_tags, world_on_tags, rests_by_tags, ran_on_tags, are_level_on_tags, agreed_on_tags}
 use Rattle.lapd_recovery_laws.proofs.RunsEmpty as runs
+use Rattle.lapd_recovery_laws.proofs.RunsEmpty.{after_runs}
 use Rattle.lapd_recovery_laws.proofs.StaysOpen.{Tries, Lasts, less, deliver, expire_200, never_203, lose, Through, goes_through}
 
 -- ---- From an open world.
@@ -156,6 +153,29 @@ few_losses N lost some w f preserved o = record {
 
 -- ---- After every run, on whole numbers and on tags.
 
+up_on_tags : (w v : World) → IsUp w v → IsUp (tag_world w) (tag_world v)
+up_on_tags w v u = record {
+  agreed = agreed_on_tags v u.agreed;
+  level = are_level_on_tags v.user.end v.network.end u.level;
+  user = record { dropped = u.user.dropped; acknowledged = u.user.acknowledged };
+  network = record { dropped = u.network.dropped; acknowledged = u.network.acknowledged };
+  safe = (safe_on_tags v).1 u.safe;
+}
+
+own_or_losses_by_tags : (moves : List Move) (w : World) → IsInvariant w → IsConsistentWorld Whole w
+    → AreOwnOrLosses Tagged moves (tag_world w) → AreOwnOrLosses Whole moves w
+own_or_losses_by_tags [] w i preserved own = tt
+own_or_losses_by_tags (move ∷ moves) w i preserved own =
+    let now = world_after w (happens Whole move w) in (
+      record {
+        due = ap (λ b. is_loss move.event || b) (sym (due_on_tags move.event w)) ∙ own.0.due;
+        admitted = sym (ok_on_tags move w i preserved) ∙ own.0.admitted;
+      },
+      own_or_losses_by_tags moves now (each_move_preserves move w i)
+          (run_consistent Whole (move ∷ []) w preserved)
+          (subst (λ v. AreOwnOrLosses Tagged moves v) (world_on_tags move w i preserved) own.1),
+    )
+
 on_tags : (lost : ℕ) (w : World) → IsInvariant w → IsConsistentWorld Whole w → KeepsAll Whole lost w
     → KeepsAll Tagged lost (tag_world w)
 on_tags lost w i preserved k = record {
@@ -210,45 +230,21 @@ outlasts_by_tags lost e o = record {
   tries = o.tries;
 }
 
-module _ (user network : Parameters) (user_small : user.k ≤ 127) (network_small : network.k ≤ 127)
-    (user_some : 1 ≤ user.k) (network_some : 1 ≤ network.k) (moves : List Move) (lost : ℕ) where
-  abbrev reached : World
-  reached = run Whole moves (new_world user network)
-
-  holds : IsInvariant reached
-  holds = runs.holds user network user_small network_small user_some network_some moves
-
-  preserved : IsConsistentWorld Whole reached
-  preserved = runs.preserved user network user_small network_small user_some network_some moves
-
-  keeps_whole : OutlastLosses lost reached → KeepsAll Whole lost reached
-  keeps_whole o =
-      let N = reached.user.end.parameters.n200 + reached.network.end.parameters.n200 in
-      let some = o.user.retries in
-      let k =
-      few_losses N lost (omega (arith, some)) reached
-      (runs.facts user network user_small network_small user_some network_some moves N
-      (omega arith) (omega arith)) preserved o in
-      k
-
-  keeps_by : (r : Reading) → OutlastLosses lost (run r moves (new_world user network))
-      → KeepsAll r lost (run r moves (new_world user network))
-  keeps_by Whole o = keeps_whole o
-  keeps_by Tagged o =
-      let same : run Tagged moves (new_world user network) ≡ tag_world reached =
-      reached_tags user network user_small network_small moves in
-      let there : OutlastLosses lost (tag_world reached) =
-      subst (λ w. OutlastLosses lost w) same o in
-      subst (λ w. KeepsAll Tagged lost w) (sym same)
-      (on_tags lost reached holds preserved
-      (keeps_whole (record {
-        user = outlasts_by_tags lost reached.user.end there.user;
-        network = outlasts_by_tags lost reached.network.end there.network;
-      })))
+outlast_by_tags : (lost : ℕ) (w : World) → OutlastLosses lost (tag_world w) → OutlastLosses lost w
+outlast_by_tags lost w o = record {
+  user = outlasts_by_tags lost w.user.end o.user;
+  network = outlasts_by_tags lost w.network.end o.network;
+}
 
 pub few_losses_drop_nothing : (r : Reading) (user network : Parameters) → user.k ≤ 127
     → network.k ≤ 127 → 1 ≤ user.k → 1 ≤ network.k → (moves : List Move) (lost : ℕ)
     → OutlastLosses lost (run r moves (new_world user network))
     → KeepsAll r lost (run r moves (new_world user network))
 few_losses_drop_nothing r user network u n us ns moves lost o =
-    keeps_by user network u n us ns moves lost r o
+    after_runs (λ w. OutlastLosses lost w) (λ r w. KeepsAll r lost w)
+    (λ w facts preserved o. let some =
+    o.user.retries in
+    few_losses (w.user.end.parameters.n200 + w.network.end.parameters.n200) lost
+    (omega (arith, some)) w
+    (facts (w.user.end.parameters.n200 + w.network.end.parameters.n200) (omega arith) (omega arith))
+    preserved o) (outlast_by_tags lost) (on_tags lost) r user network u n us ns moves o

@@ -9,7 +9,6 @@ use Rattle.lapd_pair_laws.specs.Move.{PairEvent, Expire200, Expire203, Move}
 use Rattle.lapd_pair_laws.specs.Tagged.{tag_world}
 use Rattle.lapd_pair_laws.specs.World.{World, new_world, happens, world_after, run, left}
 use Rattle.lapd_pair_laws.proofs.Consistency.{run_consistent}
-use Rattle.lapd_pair_laws.proofs.Reached.{reached_tags}
 use Rattle.lapd_pair_laws.proofs.TaggedMoves.{left_on_tags}
 use Rattle.lapd_pair_laws.proofs.Whole.{each_move_preserves, each_run_preserves}
 use Rattle.lapd_recovery_laws.specs.Agreed.{AreAgreed}
@@ -23,7 +22,7 @@ use Rattle.lapd_recovery_laws.specs.Losses.{is_loss, one_if, losses}
 use Rattle.lapd_recovery_laws.specs.Own.{Rests}
 use Rattle.lapd_recovery_laws.proofs.AgreementAfterRuns.{out_on_tags, in_agreement_on_tags}
 use Rattle.lapd_recovery_laws.proofs.CountedMoves.{Keeps}
-use Rattle.lapd_recovery_laws.proofs.DespiteTimers.{despite_timers, early_on_tags, line_moves_by_tags}
+use Rattle.lapd_recovery_laws.proofs.DespiteTimers.{keeps_left, despite_timers, early_on_tags, line_moves_by_tags}
 use Rattle.lapd_recovery_laws.proofs.EveryWorld.{free_world_by_tags}
 use Rattle.lapd_recovery_laws.proofs.Expiries.{one_if_few}
 use Rattle.lapd_recovery_laws.proofs.FreeTimers.{t200s_few}
@@ -32,6 +31,7 @@ use Rattle.lapd_recovery_laws.proofs.Overtaken.{overtaken_few}
 use Rattle.lapd_recovery_laws.proofs.OwnOnTags.{world_on_tags, rests_by_tags, ran_on_tags, agreed_on_tags}
 use Rattle.lapd_recovery_laws.proofs.Rejoins.{is_apart_t203, apart_t203s, few_due}
 use Rattle.lapd_recovery_laws.proofs.RunsEmpty as runs
+use Rattle.lapd_recovery_laws.proofs.RunsEmpty.{after_runs}
 
 early_few : (event : PairEvent) (w : World)
     → one_if (is_early event w) ≤ one_if (is_t200 event) + one_if (is_t203 event)
@@ -291,47 +291,14 @@ on_tags N w i preserved c = record {
       subst AreAgreed (sym same) (agreed_on_tags now (c.agreed moves a.own still));
 }
 
--- ---- After every run.
-
-module _ (N : ℕ) (some : 1 ≤ N) (user network : Parameters) (user_small : user.k ≤ 127)
-    (network_small : network.k ≤ 127) (user_some : 1 ≤ user.k) (network_some : 1 ≤ network.k)
-    (moves : List Move) where
-  abbrev reached : World
-  reached = run Whole moves (new_world user network)
-
-  holds : IsInvariant reached
-  holds = runs.holds user network user_small network_small user_some network_some moves
-
-  preserved : IsConsistentWorld Whole reached
-  preserved = runs.preserved user network user_small network_small user_some network_some moves
-
-  freely_whole : IsFreeWorld N reached → ComesBackFreely Whole N reached
-  freely_whole a =
-      let facts =
-      runs.facts user network user_small network_small user_some network_some moves N
-      a.user_retries a.network_retries in
-      let all = runs.left_waits reached preserved in
-      comes_back_freely N some reached (record {
-        facts = facts;
-        preserved = preserved;
-        user_free = a.user_free;
-        network_free = a.network_free;
-        few = omega (arith, all);
-      }) (despite_timers N some reached facts preserved a.user_free a.network_free)
-
-  freely_by : (r : Reading) → IsFreeWorld N (run r moves (new_world user network))
-      → ComesBackFreely r N (run r moves (new_world user network))
-  freely_by Whole a = freely_whole a
-  freely_by Tagged a =
-      let same : run Tagged moves (new_world user network) ≡ tag_world reached =
-      reached_tags user network user_small network_small moves in
-      subst (λ w. ComesBackFreely Tagged N w) (sym same)
-      (on_tags N reached holds preserved
-      (freely_whole (free_world_by_tags N reached (subst (λ w. IsFreeWorld N w) same a))))
-
 pub every_world_comes_back_whenever_timers_expire : (r : Reading) (n200 : ℕ) → 1 ≤ n200
     → (user network : Parameters) → user.k ≤ 127 → network.k ≤ 127 → 1 ≤ user.k → 1 ≤ network.k
     → (moves : List Move) → IsFreeWorld n200 (run r moves (new_world user network))
     → ComesBackFreely r n200 (run r moves (new_world user network))
-every_world_comes_back_whenever_timers_expire r n200 some user network u n us ns moves a =
-    freely_by n200 some user network u n us ns moves r a
+every_world_comes_back_whenever_timers_expire r n200 some =
+    after_runs (λ w. IsFreeWorld n200 w) (λ r w. ComesBackFreely r n200 w)
+    (λ w facts preserved a. let f =
+    facts n200 a.user_retries a.network_retries in
+    comes_back_freely n200 some w (keeps_left n200 w f preserved a.user_free a.network_free)
+    (despite_timers n200 some w f preserved a.user_free a.network_free))
+    (free_world_by_tags n200) (on_tags n200) r

@@ -32,7 +32,7 @@ use Rattle.lapd_recovery_laws.proofs.Lost.{at}
 use Rattle.lapd_recovery_laws.proofs.LostMoves.{moved_user}
 use Rattle.lapd_recovery_laws.proofs.OpenMoves.{open_expires, expires_more}
 use Rattle.lapd_recovery_laws.proofs.OutageWorlds.{Facts, facts_swapped}
-use Rattle.lapd_recovery_laws.proofs.PeerReleased.{ok_of_side}
+use Rattle.lapd_recovery_laws.proofs.OwnBySide.{ok_of_side}
 use Rattle.lapd_recovery_laws.proofs.Renewals.{halting, halting_few, unready_halting, Renews, request_in, request_few, open_requests_none, under_way}
 use Rattle.lapd_recovery_laws.proofs.RunsEmpty as runs
 use Rattle.lapd_recovery_laws.proofs.TimersBeside.{ExpiresBeside, t200_early, t203_early}

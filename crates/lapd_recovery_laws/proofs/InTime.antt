@@ -12,7 +12,6 @@ use Rattle.lapd_pair_laws.specs.Move.{PairEvent, Deliver, Lose, Expire200, Expir
 use Rattle.lapd_pair_laws.specs.Tagged.{tag_world}
 use Rattle.lapd_pair_laws.specs.World.{World, view_of, new_world, happens, world_after, run, left}
 use Rattle.lapd_pair_laws.proofs.Consistency.{run_consistent}
-use Rattle.lapd_pair_laws.proofs.Reached.{reached_tags}
 use Rattle.lapd_pair_laws.proofs.TaggedMoves.{left_on_tags}
 use Rattle.lapd_pair_laws.proofs.Whole.{each_move_preserves}
 use Rattle.lapd_recovery_laws.specs.Agreed.{AreAgreed}
@@ -28,16 +27,17 @@ use Rattle.lapd_recovery_laws.specs.Own.{is_line_empty, Rests}
 use Rattle.lapd_recovery_laws.proofs.AgreementAfterRuns.{in_agreement_on_tags}
 use Rattle.lapd_recovery_laws.proofs.AnyOrder.{none_there, none_there_too}
 use Rattle.lapd_recovery_laws.proofs.CountedMoves.{Keeps}
-use Rattle.lapd_recovery_laws.proofs.DespiteTimers.{despite_timers, line_moves_by_tags}
+use Rattle.lapd_recovery_laws.proofs.DespiteTimers.{keeps_left, despite_timers, line_moves_by_tags}
 use Rattle.lapd_recovery_laws.proofs.EveryWorld.{free_world_by_tags}
 use Rattle.lapd_recovery_laws.proofs.FreeAfterRuns.{alike, t200s_more, moves_more, all_few}
 use Rattle.lapd_recovery_laws.proofs.FreeTimers.{t200s_few}
 use Rattle.lapd_recovery_laws.proofs.KeepsAgreement.{Knows, knows_after, calm_stays, in_step_is_calm, settled, stays_agreed}
 use Rattle.lapd_recovery_laws.proofs.Lost.{at}
 use Rattle.lapd_recovery_laws.proofs.OwnOnTags.{due_on_tags, world_on_tags, rests_by_tags, ran_on_tags}
-use Rattle.lapd_recovery_laws.proofs.PeerReleased.{t200_runs, ok_of_side}
+use Rattle.lapd_recovery_laws.proofs.OwnBySide.{t200_runs, ok_of_side}
 use Rattle.lapd_recovery_laws.proofs.Rejoins.{is_apart_t203, apart_t203s, few_due}
 use Rattle.lapd_recovery_laws.proofs.RunsEmpty as runs
+use Rattle.lapd_recovery_laws.proofs.RunsEmpty.{after_runs}
 
 -- ---- How long a move takes.
 
@@ -280,45 +280,14 @@ on_tags N w i preserved c = λ t start now timed own lossless punctual late.
     (c t start now timed (line_moves_by_tags moves w i preserved own).own lossless
     (punctual_by_tags t timed start now w i preserved punctual) (omega (arith, same, late))))
 
-module _ (N : ℕ) (some : 1 ≤ N) (user network : Parameters) (user_small : user.k ≤ 127)
-    (network_small : network.k ≤ 127) (user_some : 1 ≤ user.k) (network_some : 1 ≤ network.k)
-    (moves : List Move) where
-  abbrev reached : World
-  reached = run Whole moves (new_world user network)
-
-  holds : IsInvariant reached
-  holds = runs.holds user network user_small network_small user_some network_some moves
-
-  preserved : IsConsistentWorld Whole reached
-  preserved = runs.preserved user network user_small network_small user_some network_some moves
-
-  in_time_whole : IsFreeWorld N reached → ComesBackInTime Whole N reached
-  in_time_whole a =
-      let facts =
-      runs.facts user network user_small network_small user_some network_some moves N
-      a.user_retries a.network_retries in
-      let all = runs.left_waits reached preserved in
-      comes_back_in_time N some reached (record {
-        facts = facts;
-        preserved = preserved;
-        user_free = a.user_free;
-        network_free = a.network_free;
-        few = omega (arith, all);
-      }) (despite_timers N some reached facts preserved a.user_free a.network_free)
-
-  in_time_by : (r : Reading) → IsFreeWorld N (run r moves (new_world user network))
-      → ComesBackInTime r N (run r moves (new_world user network))
-  in_time_by Whole a = in_time_whole a
-  in_time_by Tagged a =
-      let same : run Tagged moves (new_world user network) ≡ tag_world reached =
-      reached_tags user network user_small network_small moves in
-      subst (λ w. ComesBackInTime Tagged N w) (sym same)
-      (on_tags N reached holds preserved
-      (in_time_whole (free_world_by_tags N reached (subst (λ w. IsFreeWorld N w) same a))))
-
 pub every_world_comes_back_in_time : (r : Reading) (n200 : ℕ) → 1 ≤ n200
     → (user network : Parameters) → user.k ≤ 127 → network.k ≤ 127 → 1 ≤ user.k → 1 ≤ network.k
     → (moves : List Move) → IsFreeWorld n200 (run r moves (new_world user network))
     → ComesBackInTime r n200 (run r moves (new_world user network))
-every_world_comes_back_in_time r n200 some user network u n us ns moves a =
-    in_time_by n200 some user network u n us ns moves r a
+every_world_comes_back_in_time r n200 some =
+    after_runs (λ w. IsFreeWorld n200 w) (λ r w. ComesBackInTime r n200 w)
+    (λ w facts preserved a. let f =
+    facts n200 a.user_retries a.network_retries in
+    comes_back_in_time n200 some w (keeps_left n200 w f preserved a.user_free a.network_free)
+    (despite_timers n200 some w f preserved a.user_free a.network_free))
+    (free_world_by_tags n200) (on_tags n200) r

@@ -46,7 +46,7 @@ use Rattle.lapd_recovery_laws.proofs.OneMoreFrame.{seeing}
 use Rattle.lapd_recovery_laws.proofs.CountedMoves.{after}
 use Rattle.lapd_recovery_laws.proofs.EndSends.{kinds_append, stops_full}
 use Rattle.lapd_recovery_laws.proofs.StaysOpen.{IsOpen, stays_open, awaits_none}
-use Rattle.lapd_recovery_laws.proofs.PeerReleased.{t200_runs, t203_runs, ok_of_side}
+use Rattle.lapd_recovery_laws.proofs.OwnBySide.{t200_runs, t203_runs, ok_of_side}
 use Rattle.lapd_recovery_laws.proofs.LoneSteps.{Polls, polls_by_t200, polls_by_t203}
 use Rattle.lapd_recovery_laws.proofs.Lost.{at}
 use Rattle.lapd_recovery_laws.proofs.LostMoves.{moved_user}

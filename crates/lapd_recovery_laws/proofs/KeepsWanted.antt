@@ -37,19 +37,17 @@ use Rattle.lapd_pair_laws.proofs.Stepping.{user_move}
 use Rattle.lapd_pair_laws.proofs.Swaps.{network_alike}
 use Rattle.lapd_pair_laws.proofs.Whole.{each_move_preserves}
 use Rattle.lapd_pair_laws.proofs.Worlds.{left_by}
-use Rattle.lapd_recovery_laws.specs.AfterOutage.{IsKept}
-use Rattle.lapd_recovery_laws.specs.WantedLine.{IsWanting, is_dm, NoneRefused, IsWanted}
+use Rattle.lapd_recovery_laws.specs.WantedLine.{IsKept, IsWanting, is_dm, NoneRefused, IsWanted}
 use Rattle.lapd_recovery_laws.proofs.AnyOrder.{none_there, none_there_too}
 use Rattle.lapd_recovery_laws.proofs.OneMoreFrame.{seeing}
 use Rattle.lapd_recovery_laws.proofs.ClosedInputs.{opened_line}
 use Rattle.lapd_recovery_laws.proofs.DiscSent.{is_disc, NoDisc}
 use Rattle.lapd_recovery_laws.proofs.EndSends.{Unsending, kinds_append, end_closes}
-use Rattle.lapd_recovery_laws.proofs.Establishes.{discards_by}
 use Rattle.lapd_recovery_laws.proofs.Lost.{at}
 use Rattle.lapd_recovery_laws.proofs.LostMoves.{moved_user}
 use Rattle.lapd_recovery_laws.proofs.OpenFrames.{refuse_of, refused_few, IsSabme, IsDisc, requested, unit_kind, open_by_request, open_delivered}
 use Rattle.lapd_recovery_laws.proofs.OutageWorlds.{turned, Facts, facts_swapped}
-use Rattle.lapd_recovery_laws.proofs.SendsOn.{indicated_line, by_each}
+use Rattle.lapd_recovery_laws.proofs.SendsOn.{discards_by, indicated_line, by_each}
 
 -- ---- Frames that release.
 

@@ -1,7 +1,6 @@
 pub mod AfterOutage
 pub mod AgreementAfterRuns
 pub mod AnyOrder
-pub mod OneMoreFrame
 pub mod Cleared
 pub mod ClosedDelivers
 pub mod ClosedInputs
@@ -14,11 +13,10 @@ pub mod DespiteLosses
 pub mod DespiteTimers
 pub mod DiscSent
 pub mod EndSends
-pub mod Establishes
 pub mod EveryWorld
+pub mod Exchanges
 pub mod Expiries
 pub mod ExpiriesOfTimers
-pub mod Exchanges
 pub mod FewLosses
 pub mod FreeAfterRuns
 pub mod FreeTimers
@@ -29,15 +27,14 @@ pub mod KeepsAgreement
 pub mod KeepsWanted
 pub mod KeptNumbers
 pub mod KeptOnTags
-pub mod PeerReleased
-pub mod LoneAfterRuns
+pub mod LoneLine
 pub mod LoneSteps
 pub mod LosesFrame
 pub mod Lost
 pub mod LostAtRestart
 pub mod LostExpires
 pub mod LostMoves
-pub mod OpenAfterRuns
+pub mod OneMoreFrame
 pub mod OpenDelivers
 pub mod OpenFrames
 pub mod OpenLine
@@ -46,6 +43,7 @@ pub mod OpenTimers
 pub mod Outage
 pub mod OutageWorlds
 pub mod Overtaken
+pub mod OwnBySide
 pub mod OwnOnTags
 pub mod Proceeding
 pub mod QuickRuns

@@ -3,7 +3,6 @@ use Rattle.std.proofs.Common.{◌≡◌, ℕ, ◌+◌, ◌&&◌, nat_lt, Bool, t
 use Rattle.std.proofs.lemmas.Bool.Decides.{nat_tests}
 use Rattle.lapd_timers.specs.declared.timer.Timer.TheVariants.{T200, T203}
 use Rattle.lapd_frame.specs.declared.Side.TheVariants as side
-use Rattle.lapd_frame.specs.declared.Role.{Role}
 use Rattle.lapd_frame.specs.declared.Role.TheVariants.{Command, Answer}
 use Rattle.lapd_frame.specs.declared.Control.{Control}
 use Rattle.lapd_frame.specs.declared.Control.TheVariants.{I, Rr, Rnr, Rej, Sabme, Ua}
@@ -48,15 +47,6 @@ unfolding status_frame
 ignored_status w =
     by_test (λ control. is_ignored control ≡ true) w.own_busy _ _ (λ _. refl) (λ _. refl)
 
-passes_over : (control : Control) (role : Role) (s : StepState) → s.end.state ≡ TeiAssigned
-    → is_ignored control ≡ true → end_step Whole (row Whole TeiAssigned (Heard control role) s) ≡ s
-unfolding each_row
-passes_over (I ns nr p) role s is ignored = closes_nothing s (ap is_7_or_8 is)
-passes_over (Rr nr pf) role s is ignored = closes_nothing s (ap is_7_or_8 is)
-passes_over (Rnr nr pf) role s is ignored = closes_nothing s (ap is_7_or_8 is)
-passes_over (Rej nr pf) role s is ignored = closes_nothing s (ap is_7_or_8 is)
-passes_over control role s is ignored = cc
-
 pub no_frame : (e : End) (octets : List ℕ) (place : ℕ) (v : View)
     → (story_after octets place v (begin e)).line ≡ v.outgoing ++ []
 unfolding story_after begin
@@ -65,20 +55,6 @@ no_frame e octets place v = sym (append-nil v.outgoing)
 pub same_end : (e : End) → (begin e).end ≡ e
 unfolding begin
 same_end e = refl
-
-same_state : (e : End) → (begin e).end.state ≡ e.state
-unfolding begin
-same_state e = refl
-
-pub ignored_in_4 : (e : End) (control : Control) (role : Role) → e.state ≡ TeiAssigned
-    → is_ignored control ≡ true
-    → Yields e (end_step Whole (row Whole e.state (Heard control role) (begin e))) e []
-ignored_in_4 e control role is ignored =
-    subst (λ st. Yields e (end_step Whole (row Whole st (Heard control role) (begin e))) e [])
-    (sym is)
-    (subst (λ (t : StepState). Yields e t e [])
-    (sym (passes_over control role (begin e) (same_state e ∙ is) ignored))
-    (record { end = same_end e; line = λ octets place v same. no_frame e octets place v }))
 
 -- ---- A poll that nobody answers.
 
@@ -310,15 +286,6 @@ module _ (x : Station) where
 
 -- ---- At the last try the end establishes anew.
 
--- in state 5, by the data link itself, with conditions cleared
-pub record AsksItself (e : End) : Type 0 where
-  pub in_5 : e.state ≡ AwaitingEstablishment
-  pub itself : e.layer3_initiated ≡ false
-  pub stays : e.release_pending ≡ false
-  pub idle : e.window.own_busy ≡ false
-  pub free : e.window.peer_busy ≡ false
-  pub none_pending : e.window.ack_pending ≡ false
-
 abbrev pub sabme : Flight
 sabme = without_info Command (Sabme true)
 
@@ -371,17 +338,6 @@ last_try_in_8 e is on last =
     subst
     (λ st. Yields e (end_step Whole (row Whole st (Expiry T200) (begin e))) (asking e) (sabme ∷ []))
     (sym is) (last_try_yields e on last)
-
-pub asks_itself : (e : End) → AsksItself (asking e)
-unfolding without_exceptions
-asks_itself e = record {
-  in_5 = refl;
-  itself = refl;
-  stays = refl;
-  idle = refl;
-  free = refl;
-  none_pending = refl;
-}
 
 -- ---- A SABME in state 4.
 

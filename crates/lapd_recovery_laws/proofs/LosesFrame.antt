@@ -19,7 +19,7 @@ use Rattle.lapd_pair_laws.proofs.Parts.{Part, part_lost, part_nothing, part_reje
 use Rattle.lapd_pair_laws.proofs.Stepping.{user_move}
 use Rattle.lapd_pair_laws.proofs.Swaps.{network_alike}
 use Rattle.lapd_pair_laws.proofs.Worlds.{left_by, exchanged}
-use Rattle.lapd_recovery_laws.proofs.PeerReleased.{ok_of_side}
+use Rattle.lapd_recovery_laws.proofs.OwnBySide.{ok_of_side}
 use Rattle.lapd_recovery_laws.proofs.LostMoves.{moved_user}
 use Rattle.lapd_recovery_laws.proofs.Proceeding.{weigh, weight_some, plain_of, plain_in, heard, extra, missing, load_in, load, load_less, fresh_few, Share, Flowing, flowing_turned}
 use Rattle.lapd_recovery_laws.proofs.RunsEmpty.{Flow, missing_few}

@@ -11,11 +11,10 @@ use Rattle.lapd_pair_laws.specs.Conjuncts.{OneAsked}
 use Rattle.lapd_pair_laws.specs.Invariant.{IsInvariant}
 use Rattle.lapd_pair_laws.specs.Timed.{AreSettledEnds}
 use Rattle.lapd_pair_laws.proofs.Drains.{Seen, Drains, mine_open}
-use Rattle.lapd_pair_laws.proofs.DrainsByT200.{seen_expired, preserved_expired}
+use Rattle.lapd_pair_laws.proofs.DrainsByT200.{seen_expired}
 use Rattle.lapd_pair_laws.proofs.Flow.{Sink, source, sink, Stage, Clean, Waiting, Polling, Answered, IsAt, burden, weight, Stream}
 use Rattle.lapd_pair_laws.proofs.Lists.{by_test}
 use Rattle.lapd_pair_laws.proofs.SettledEnds.{move_settles}
-use Rattle.lapd_pair_laws.proofs.Settles.{SameDropped}
 use Rattle.lapd_pair_laws.proofs.SenderStream as speaks
 use Rattle.lapd_pair_laws.proofs.Stepping.{user_move, network_move}
 use Rattle.lapd_pair_laws.proofs.Whole.{each_move_preserves}
@@ -23,7 +22,7 @@ use Rattle.lapd_pair_laws.proofs.Worlds.{left_by, exchanged}
 use Rattle.lapd_recovery_laws.proofs.OneMoreFrame.{seeing}
 use Rattle.lapd_recovery_laws.proofs.Lost.{at, UserLost, kinds_length, lost_so}
 use Rattle.lapd_recovery_laws.proofs.LostMoves.{moved_user, moved_network, seen_by_network, asked_of, weight_in_8}
-use Rattle.lapd_recovery_laws.proofs.Retry.{Retries, seen_retried, preserved_retried}
+use Rattle.lapd_recovery_laws.proofs.Retry.{Retries, seen_retried}
 
 -- ---- A lost end, as its peer's stream sees it: it waits for T200.
 
@@ -170,12 +169,6 @@ module _ (last : Bool) (n : ℕ) (x y : Station) (l : UserLost last n (at x y []
         sees = seen_retried x y (n - 1) on l.drains.sees.its_idle (retries tries);
       })
 
-  pub lost_user_expires_dropped : x.end.t200 ≡ true → nat_lt x.end.rc x.end.parameters.n200 ≡ true
-      → SameDropped w (world_after w (happens Whole (user_move Expire200) w))
-  lost_user_expires_dropped on tries =
-      subst (λ v. SameDropped w v) (sym (moved_user Expire200 w))
-      (record { user = preserved_retried x y (n - 1) on (retries tries); network = refl })
-
   -- T200 of its peer expires
   stands_in : Seen n (seeing y [] []) (stand_in x)
   stands_in = record {
@@ -203,12 +196,6 @@ module _ (last : Bool) (n : ℕ) (x y : Station) (l : UserLost last n (at x y []
       (subst AreSettledEnds same (move_settles (network_move Expire200) w ends)) l.in_8
       l.tries (nothing_comes y)
       (seen_expired y (stand_in x) n on stands_in))
-
-  pub lost_peer_expires_dropped : y.end.t200 ≡ true
-      → SameDropped w (world_after w (happens Whole (network_move Expire200) w))
-  lost_peer_expires_dropped on =
-      subst (λ v. SameDropped w v) (sym (moved_network Expire200 w))
-      (record { user = refl; network = preserved_expired y (stand_in x) n on stands_in })
 
 -- ---- Both ends are lost.
 
@@ -273,9 +260,3 @@ module _ (last : Bool) (n : ℕ) (x y : Station) (l : BothLost last n (at x y []
       (record { user = ends.network; network = ends.user }) l.network_in_8 l.network_tries
       (nothing_comes x)
       (seen_retried x (stand_in y) (n - 1) on l.network_idle both_retries))
-
-  pub both_lost_expires_dropped : SameDropped both
-      (world_after both (happens Whole (user_move Expire200) both))
-  both_lost_expires_dropped =
-      subst (λ v. SameDropped both v) (sym (moved_user Expire200 both))
-      (record { user = preserved_retried x (stand_in y) (n - 1) on both_retries; network = refl })

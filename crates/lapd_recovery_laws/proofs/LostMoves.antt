@@ -18,7 +18,7 @@ use Rattle.lapd_pair_laws.specs.Conjuncts.{OneAsked}
 use Rattle.lapd_pair_laws.specs.Invariant.{IsInvariant}
 use Rattle.lapd_pair_laws.specs.Timed.{AreSettledEnds}
 use Rattle.lapd_pair_laws.proofs.WorkOfActions.{AreReady}
-use Rattle.lapd_pair_laws.proofs.Drains.{Seen, Drains, drains_swapped, seen_delivered, preserved_delivered, mine_open}
+use Rattle.lapd_pair_laws.proofs.Drains.{Seen, Drains, drains_swapped, seen_delivered, mine_open}
 use Rattle.lapd_pair_laws.proofs.Flow.{Source, Sink, source, sink, Stage, Clean, Waiting, Polling, Answered, IsAt, burden, weight, Stream}
 use Rattle.lapd_pair_laws.proofs.GoingBack.{none_asked_in_7, asked_in_8}
 use Rattle.lapd_pair_laws.proofs.Lists.{tally_more}
@@ -26,7 +26,6 @@ use Rattle.lapd_pair_laws.proofs.MidSteps.{Mid, enter}
 use Rattle.lapd_pair_laws.proofs.Moves.{after_by_user}
 use Rattle.lapd_pair_laws.proofs.Receptions.{open_receives}
 use Rattle.lapd_pair_laws.proofs.SettledEnds.{move_settles}
-use Rattle.lapd_pair_laws.proofs.Settles.{SameDropped}
 use Rattle.lapd_pair_laws.proofs.SenderStream as speaks
 use Rattle.lapd_pair_laws.proofs.Stepping.{user_move, network_move}
 use Rattle.lapd_pair_laws.proofs.Swaps.{network_alike}
@@ -180,20 +179,6 @@ lost_user_receives last n x y frame rest to_network l =
       drains = subst (λ m. Drains m (with_final now)) fewer here;
     }
 
-pub lost_user_receives_dropped : (last : Bool) (n : ℕ) (x y : Station) (frame : Flight)
-    (rest to_network : List Flight) → UserLost last n (at x y (frame ∷ rest) to_network)
-    → SameDropped (at x y (frame ∷ rest) to_network)
-    (world_after (at x y (frame ∷ rest) to_network)
-    (happens Whole (user_move Deliver) (at x y (frame ∷ rest) to_network)))
-unfolding happens acts delivers receives step view_after story_after
-lost_user_receives_dropped last n x y frame rest to_network l =
-    let d = l.drains in
-    let i = d.holds in
-    let same =
-    preserved_delivered x y frame (rest ++ final_of_peer y ∷ []) to_network (n - 2)
-    i.user_base i.network_base i.both d.ends_settled.user d.sees in
-    record { user = same; network = refl }
-
 -- ---- A frame is delivered to its peer.
 
 module _ (last : Bool) (n : ℕ) (x y : Station) (back : List Flight) (frame : Flight)
@@ -335,12 +320,3 @@ module _ (last : Bool) (n : ℕ) (x y : Station) (back : List Flight) (frame : F
       (world_after w (happens Whole (network_move Deliver) w))
   lost_peer_receives =
       subst (λ v. UserLost last (n - 1) v) (sym same) (lost_so last (n - 1) now parts)
-
-  pub lost_peer_receives_dropped : SameDropped w
-      (world_after w (happens Whole (network_move Deliver) w))
-  lost_peer_receives_dropped = subst (λ v. SameDropped w v) (sym same) (record {
-    user = refl;
-    network =
-        preserved_delivered y x frame rest (back ++ f ∷ []) (n - 2) d.holds.user_base
-        d.holds.network_base d.holds.both d.ends_settled.user d.sees;
-  })

@@ -37,13 +37,12 @@ use Rattle.lapd_pair_laws.proofs.Steps.{context, begun}
 use Rattle.lapd_pair_laws.proofs.Closed.{unsaid_rejections}
 use Rattle.lapd_pair_laws.proofs.Closings.{most_is_one}
 use Rattle.lapd_recovery_laws.proofs.EndSends.{Unsending, pending_in, pending, kinds_append, end_closes}
-use Rattle.lapd_recovery_laws.proofs.Establishes.{discards_by}
 use Rattle.lapd_recovery_laws.proofs.LoneSteps.{is_ignored}
 use Rattle.lapd_recovery_laws.proofs.OpenDelivers.{Delivered, by_answer, answered_so, by_back}
 use Rattle.lapd_recovery_laws.proofs.Proceeding.{weigh, plain_of, heard, extra, extra_few, extra_open, extra_first, Arrives, behind_first, missing_in, missing, load, load_open, load_closed, once_more, none_more, Share, Pays}
 use Rattle.lapd_recovery_laws.proofs.Replies.{Sending, Keeps, Replies, Backs, Turns, passes}
 use Rattle.lapd_recovery_laws.proofs.RepliesOfRows.{i_in_7, i_in_8, rr_in_7, rr_in_8, rnr_in_7, rnr_in_8, rej_in_7, rej_in_8}
-use Rattle.lapd_recovery_laws.proofs.SendsOn.{by_each}
+use Rattle.lapd_recovery_laws.proofs.SendsOn.{discards_by, by_each}
 
 -- the frames but for the messages, of each case
 reset_line : (test c b : Bool) (n : ℕ) (o : Occasion) (t : Story)

@@ -29,7 +29,7 @@ use Rattle.lapd_recovery_laws.proofs.LosesFrame.{frame_lost, user_loses}
 use Rattle.lapd_recovery_laws.proofs.Lost.{at}
 use Rattle.lapd_recovery_laws.proofs.LostMoves.{moved_user}
 use Rattle.lapd_recovery_laws.proofs.OutageWorlds.{Facts, facts_swapped}
-use Rattle.lapd_recovery_laws.proofs.PeerReleased.{ok_of_side}
+use Rattle.lapd_recovery_laws.proofs.OwnBySide.{ok_of_side}
 use Rattle.lapd_recovery_laws.proofs.Proceeding.{missing_in, missing}
 use Rattle.lapd_recovery_laws.proofs.RunsEmpty as runs
 use Rattle.lapd_recovery_laws.proofs.RunsEmpty.{Flow, missing_few, in_queue}

@@ -1,5 +1,5 @@
 -- The own moves of a line after an outage, in any order.
-use Rattle.std.proofs.Common.{◌≡◌, ◌⊎◌, inl, inr, ℕ, ◌+◌, ◌*◌, ◌-◌, ◌≤◌, not, ◌&&◌, ◌||◌, Bool, true, false, List, ◌∷◌, length, is_ok, refl, sym, ap, subst, ◌∙◌, arith, []}
+use Rattle.std.proofs.Common.{◌≡◌, inl, inr, ℕ, ◌+◌, ◌*◌, ◌-◌, ◌≤◌, not, ◌&&◌, ◌||◌, Bool, true, false, List, ◌∷◌, length, is_ok, refl, sym, ap, subst, ◌∙◌, arith, []}
 use Rattle.lapd_frame.specs.declared.Side.{Side}
 use Rattle.lapd_frame.specs.declared.Side.TheVariants as side
 use Rattle.lapd_mod128.specs.Counting.{Whole}
@@ -25,18 +25,18 @@ use Rattle.lapd_recovery_laws.proofs.AnyOrder.{Draining, draining_swapped, MayRe
 use Rattle.lapd_recovery_laws.proofs.OneMoreFrame.{seeing}
 use Rattle.lapd_recovery_laws.proofs.ClosedSteps.{Sees, seen_after_t200, retry_in_6, give_up_in_6, released, retried}
 use Rattle.lapd_recovery_laws.proofs.HalfSteps.{dm, disc, retry_in_5, give_up_in_5, asked_again, abandoned}
-use Rattle.lapd_recovery_laws.proofs.PeerReleased.{no_delivery, t200_runs, t203_runs, ok_of_side, due_swapped, last_of, not_apart}
+use Rattle.lapd_recovery_laws.proofs.OwnBySide.{no_delivery, t200_runs, t203_runs, ok_of_side, due_swapped, last_of, not_apart}
 use Rattle.lapd_recovery_laws.proofs.LoneSteps.{sabme, ua, asking, last_try_in_8}
 use Rattle.lapd_recovery_laws.proofs.Lost.{at}
 use Rattle.lapd_recovery_laws.proofs.LostExpires.{stream}
 use Rattle.lapd_recovery_laws.proofs.LostMoves.{moved_user, moved_network, weight_in_8}
 use Rattle.lapd_recovery_laws.proofs.SendsOn.{AreIgnored}
-use Rattle.lapd_recovery_laws.proofs.Situations.{tries, twice, attempt_in, attempt, gone, again, MayTry, Establishing, Alone4, Alone5, Alone6, by_peer_5, EndInAnswer, Closed, Half, alone_4, alone_5, alone_6, asks_5, asks_6, accepted, crossed, refused, parting, closed, not_both, false_if, Coming, ComesOn}
+use Rattle.lapd_recovery_laws.proofs.Situations.{tries, twice, attempt_in, attempt, gone, again, Alone4, Alone5, Alone6, by_peer_5, EndInAnswer, Closed, Half, alone_4, alone_5, alone_6, asks_5, asks_6, accepted, crossed, refused, parting, closed, Coming, ComesOn}
 use Rattle.lapd_recovery_laws.proofs.Transitions.{literally, timers_in, attempt_is, state_of, by_user, by_network, open_peer_5, closed_peer_6, none_left, alone4_t200, alone5_t200, alone6_t200, alone4_t203, alone5_peer, alone6_peer, alone4_ignores, alone5_ignores, alone6_ignores}
 use Rattle.lapd_recovery_laws.proofs.Exchanges.{asks5_delivered, asks6_delivered, asks6_ignores, parting_moves, refused_moves, accepted_moves, crossed_moves}
-use Rattle.lapd_recovery_laws.proofs.OutageWorlds.{Facts, facts_swapped, empty_5, empty_6, empty_6_too, not_empty, first_of, second_of, neither_on, stream_unsent, no_t203_if_closed, user_ok, released_is_kept, establishing_swapped}
+use Rattle.lapd_recovery_laws.proofs.OutageWorlds.{Facts, facts_swapped, empty_5, empty_6, empty_6_too, not_empty, first_of, second_of, neither_on, stream_unsent, no_t203_if_closed, user_ok}
 
-module _ (N : ℕ) (some_retries : 1 ≤ N) (up : Bool) where
+module _ (N : ℕ) (some_retries : 1 ≤ N) where
   -- ---- Both ends are closed: T200 of the user expires.
 
   peer_bound : (n : ℕ) (x y : Station) (s : Closed N n (at x y [] []))
@@ -73,16 +73,16 @@ module _ (N : ℕ) (some_retries : 1 ≤ N) (up : Bool) where
       by_state TimerRecovery its_is c = cc
 
   module _ (n : ℕ) (x y : Station) (s : Closed N n (at x y [] []))
-      (k : up ≡ true → Establishing x.end y.end) (on : x.end.t200 ≡ true) where
+      (on : x.end.t200 ≡ true) where
     abbrev now : World
-    now = by_user N some_retries up Expire200 x y [] []
+    now = by_user Expire200 x y [] []
 
     abbrev v : View
     v = left_by (seeing x [] []) (acts Whole side.User Expire200 (seeing x [] []))
 
     gives_up : (e : End) → Sees v e [] [] → e.state ≡ TeiAssigned → unsent e ≤ unsent x.end
-        → 1 ≤ attempt x.end → (up ≡ true → MayTry y.end) → ComesOn N up n now
-    gives_up e seen is few some other =
+        → 1 ≤ attempt x.end → ComesOn N n now
+    gives_up e seen is few some =
         let le = s.most in
         let none : attempt now.user.end ≡ 0 =
         ap attempt seen.end ∙ ap (λ st. attempt_in st (tries e) e.release_pending) is in
@@ -101,23 +101,13 @@ module _ (N : ℕ) (some_retries : 1 ≤ N) (up : Bool) where
                 λ in_5 its_in_5. absurd
                 (let impossible : TeiAssigned ≡ AwaitingEstablishment = sym in_4 ∙ in_5 in cc);
             most = omega (arith, le, some, none, same, few);
-          }) (λ holds. record {
-            mine =
-                released_is_kept now.user.end in_4;
-            its =
-                (k holds).its;
-            either = inr (other holds);
           })));
         }
 
-    from_5 : x.end.state ≡ AwaitingEstablishment → ComesOn N up n now
+    from_5 : x.end.state ≡ AwaitingEstablishment → ComesOn N n now
     from_5 is = by_tries (tries x.end) refl
       where
-        other_tries : tries x.end ≡ false → MayTry x.end ⊎ MayTry y.end → MayTry y.end
-        other_tries last (inl may) = absurd (not_both (tries x.end) last may.1)
-        other_tries last (inr may) = may
-
-        by_tries : (b : Bool) → tries x.end ≡ b → ComesOn N up n now
+        by_tries : (b : Bool) → tries x.end ≡ b → ComesOn N n now
         by_tries true more =
             let seen =
             seen_after_t200 x (asked_again x.end is) (sabme ∷ []) on
@@ -144,26 +134,18 @@ module _ (N : ℕ) (some_retries : 1 ≤ N) (up : Bool) where
                     to_user = seen.incoming;
                     to_network = seen.outgoing;
                     most = omega (arith, le, three, bit, same, peer, bound);
-                  })
-                  (λ holds. let w =
-                  k holds in record {
-                    user =
-                        ap (λ (e : End). e.release_pending) seen.end
-                        ∙ w.mine.none_pending is;
-                    not_6 = w.its.not_releasing;
-                    network = w.its.none_pending;
                   })));
             }
         by_tries false last =
             let one = attempt_is AwaitingEstablishment false x.end is last in
             gives_up (abandoned x.end is)
             (seen_after_t200 x (abandoned x.end is) [] on (give_up_in_5 x.end is on last)) refl
-            (omega arith) (omega (arith, one)) (λ holds. other_tries last (k holds).either)
+            (omega arith) (omega (arith, one))
 
-    from_6 : x.end.state ≡ AwaitingRelease → ComesOn N up n now
+    from_6 : x.end.state ≡ AwaitingRelease → ComesOn N n now
     from_6 is = by_tries (tries x.end) refl
       where
-        by_tries : (b : Bool) → tries x.end ≡ b → ComesOn N up n now
+        by_tries : (b : Bool) → tries x.end ≡ b → ComesOn N n now
         by_tries true more =
             let seen =
             seen_after_t200 x (retried x.end is) (disc ∷ []) on
@@ -172,7 +154,7 @@ module _ (N : ℕ) (some_retries : 1 ≤ N) (up : Bool) where
             let three = attempt_is AwaitingRelease true x.end is more in
             let len : length now.to_user ≡ 0 = ap (λ fs. length fs) seen.incoming in
             let all =
-            closed_peer_6 N some_retries up y.end.state (attempt y.end + 2 * unsent y.end)
+            closed_peer_6 N some_retries y.end.state (attempt y.end + 2 * unsent y.end)
             s.network in
             record {
               some = omega (arith, le, three);
@@ -182,20 +164,19 @@ module _ (N : ℕ) (some_retries : 1 ≤ N) (up : Bool) where
                     ignored = subst AreIgnored (sym seen.incoming) tt;
                     to_network = seen.outgoing;
                     most = omega (arith, le, three, len, all);
-                  })
-                  (false_if up (λ holds. (k holds).mine.not_releasing is))));
+                  })));
             }
         by_tries false last =
             let one = attempt_is AwaitingRelease false x.end is last in
             gives_up (released x.end is)
             (seen_after_t200 x (released x.end is) [] on (give_up_in_6 x.end is on last)) refl
-            (omega arith) (omega (arith, one)) (λ holds. absurd ((k holds).mine.not_releasing is))
+            (omega arith) (omega (arith, one))
 
-    closed_t200 : HasTimersOfState x.end → ComesOn N up n now
+    closed_t200 : HasTimersOfState x.end → ComesOn N n now
     closed_t200 has = by_state x.end.state refl s.user
       where
         by_state : (state : State) → x.end.state ≡ state → is_7_or_8 state ≡ false
-            → ComesOn N up n now
+            → ComesOn N n now
         by_state TeiAssigned is c = let off = (timers_in TeiAssigned x.end has is).0 in cc
         by_state AwaitingEstablishment is c = from_5 is
         by_state AwaitingRelease is c = from_6 is
@@ -224,21 +205,21 @@ module _ (N : ℕ) (some_retries : 1 ≤ N) (up : Bool) where
     abbrev ByUser : PairEvent → List Flight → List Flight → Type 0
     ByUser event to_user to_network =
         is_due event (at x y to_user to_network) ≡ true → Admits event x to_user to_network
-        → ComesOn N up n (by_user N some_retries up event x y to_user to_network)
+        → ComesOn N n (by_user event x y to_user to_network)
 
     abbrev ByNetwork : PairEvent → List Flight → List Flight → Type 0
     ByNetwork event to_user to_network =
         is_due event (at x y to_user to_network) ≡ true → Admits event y to_network to_user
-        → ComesOn N up n (by_network N some_retries up event x y to_user to_network)
+        → ComesOn N n (by_network event x y to_user to_network)
 
     holds_after : (to_user to_network : List Flight) → IsInvariant (at x y to_user to_network)
-        → IsInvariant (by_user N some_retries up Deliver x y to_user to_network)
+        → IsInvariant (by_user Deliver x y to_user to_network)
     holds_after to_user to_network i =
         subst IsInvariant (moved_user Deliver (at x y to_user to_network))
         (each_move_preserves (user_move Deliver) (at x y to_user to_network) i)
 
     settled_after : (to_user to_network : List Flight) → AreSettledEnds (at x y to_user to_network)
-        → AreSettledEnds (by_user N some_retries up Deliver x y to_user to_network)
+        → AreSettledEnds (by_user Deliver x y to_user to_network)
     settled_after to_user to_network s =
         subst AreSettledEnds (moved_user Deliver (at x y to_user to_network))
         (move_settles (user_move Deliver) (at x y to_user to_network) s)
@@ -255,23 +236,23 @@ module _ (N : ℕ) (some_retries : 1 ≤ N) (up : Bool) where
         literally (ByNetwork Deliver) to_user to_network to_user [] refl none
         (λ due ok. absurd (no_delivery y to_user ok))
 
-    user_delivers : (to_user to_network : List Flight) → Half N up n (at x y to_user to_network)
+    user_delivers : (to_user to_network : List Flight) → Half N n (at x y to_user to_network)
         → Facts N (at x y to_user to_network) → ByUser Deliver to_user to_network
     user_delivers to_user to_network (alone_4 s) f = none_to_user to_user to_network s.to_user
-    user_delivers to_user to_network (alone_5 s k) f = none_to_user to_user to_network s.to_user
-    user_delivers to_user to_network (alone_6 s k) f = none_to_user to_user to_network s.to_user
-    user_delivers to_user to_network (asks_5 s k) f = none_to_user to_user to_network s.to_user
-    user_delivers [] to_network (asks_6 s k) f = none_to_user [] to_network refl
-    user_delivers (frame ∷ rest) to_network (asks_6 s k) f =
+    user_delivers to_user to_network (alone_5 s) f = none_to_user to_user to_network s.to_user
+    user_delivers to_user to_network (alone_6 s) f = none_to_user to_user to_network s.to_user
+    user_delivers to_user to_network (asks_5 s) f = none_to_user to_user to_network s.to_user
+    user_delivers [] to_network (asks_6 s) f = none_to_user [] to_network refl
+    user_delivers (frame ∷ rest) to_network (asks_6 s) f =
         literally (ByUser Deliver) (frame ∷ rest) to_network (frame ∷ rest) (disc ∷ []) refl
         s.to_network
-        (λ due ok. asks6_ignores N some_retries up n
+        (λ due ok. asks6_ignores N some_retries n
         x y frame rest
-        (record { user = s.user; ignored = s.ignored; to_network = refl; most = s.most }) k)
-    user_delivers to_user to_network (accepted s k) f =
+        (record { user = s.user; ignored = s.ignored; to_network = refl; most = s.most }))
+    user_delivers to_user to_network (accepted s) f =
         literally (λ a b. Facts N (at x y a b) → ByUser Deliver a b) to_user to_network
         (ua ∷ s.frames) [] s.to_user s.to_network
-        (λ f due ok. accepted_moves N some_retries up n
+        (λ f due ok. accepted_moves N some_retries n
         x y s.frames (record {
           user = s.user;
           frames = s.frames;
@@ -279,58 +260,58 @@ module _ (N : ℕ) (some_retries : 1 ≤ N) (up : Bool) where
           to_user = refl;
           to_network = refl;
           most = s.most;
-        }) k refl
+        }) refl
         (λ is asked. empty_5 (at x y (ua ∷ s.frames) []) f.holds is asked) (f.clear.user s.user)
         f.settled.user.timed (holds_after (ua ∷ s.frames) [] f.holds)
         (settled_after (ua ∷ s.frames) [] f.settled)) f
-    user_delivers to_user to_network (crossed s k) f =
+    user_delivers to_user to_network (crossed s) f =
         literally (λ a b. Facts N (at x y a b) → ByUser Deliver a b) to_user to_network (ua ∷ []) []
         s.to_user s.to_network
-        (λ f due ok. crossed_moves N some_retries up n
+        (λ f due ok. crossed_moves N some_retries n
         x y (record {
           user = s.user;
           network = s.network;
           to_user = refl;
           to_network = refl;
           most = s.most;
-        }) k
+        })
         (λ is asked. empty_5 (at x y (ua ∷ []) []) f.holds is asked) (f.clear.user s.user)
         f.settled.user.timed (settled_after (ua ∷ []) [] f.settled)) f
-    user_delivers to_user to_network (refused s k) f =
+    user_delivers to_user to_network (refused s) f =
         let none =
-        none_left N some_retries up y.end
+        none_left y.end
         (empty_6_too (at x y to_user to_network) f.holds s.network) in
         literally (ByUser Deliver) to_user to_network (dm ∷ []) [] s.to_user s.to_network
-        (λ due ok. refused_moves N some_retries up n
+        (λ due ok. refused_moves N some_retries n
         x y (record {
           user = s.user;
           network = s.network;
           to_user = refl;
           to_network = refl;
           most = s.most;
-        }) k none)
-    user_delivers [] to_network (parting s k) f = absurd s.to_user
-    user_delivers (frame ∷ rest) to_network (parting s k) f =
+        }) none)
+    user_delivers [] to_network (parting s) f = absurd s.to_user
+    user_delivers (frame ∷ rest) to_network (parting s) f =
         let none = empty_6 (at x y (frame ∷ rest) to_network) f.holds s.user in
         literally (ByUser Deliver) (frame ∷ rest) to_network (frame ∷ rest) [] refl s.to_network
-        (λ due ok. parting_moves N some_retries up n
+        (λ due ok. parting_moves N some_retries n
         x y frame rest (record {
           user = s.user;
           network = s.network;
           to_user = s.to_user;
           to_network = refl;
           most = s.most;
-        }) k none)
-    user_delivers to_user to_network (closed s k) f = none_to_user to_user to_network s.to_user
+        }) none)
+    user_delivers to_user to_network (closed s) f = none_to_user to_user to_network s.to_user
 
-    network_delivers : (to_user to_network : List Flight) → Half N up n (at x y to_user to_network)
+    network_delivers : (to_user to_network : List Flight) → Half N n (at x y to_user to_network)
         → Facts N (at x y to_user to_network) → ByNetwork Deliver to_user to_network
     network_delivers to_user [] (alone_4 s) f = none_to_network to_user [] refl
-    network_delivers to_user [] (alone_5 s k) f = none_to_network to_user [] refl
-    network_delivers to_user [] (alone_6 s k) f = none_to_network to_user [] refl
+    network_delivers to_user [] (alone_5 s) f = none_to_network to_user [] refl
+    network_delivers to_user [] (alone_6 s) f = none_to_network to_user [] refl
     network_delivers to_user (frame ∷ rest) (alone_4 s) f =
         literally (ByNetwork Deliver) to_user (frame ∷ rest) [] (frame ∷ rest) s.to_user refl
-        (λ due ok. alone4_ignores N some_retries up n
+        (λ due ok. alone4_ignores N some_retries n
         x y frame rest (record {
           open_state = s.open_state;
           network = s.network;
@@ -338,48 +319,46 @@ module _ (N : ℕ) (some_retries : 1 ≤ N) (up : Bool) where
           ignored = s.ignored;
           most = s.most;
         }))
-    network_delivers to_user (frame ∷ rest) (alone_5 s k) f =
+    network_delivers to_user (frame ∷ rest) (alone_5 s) f =
         literally (ByNetwork Deliver) to_user (frame ∷ rest) [] (frame ∷ rest) s.to_user refl
-        (λ due ok. alone5_ignores N some_retries up n
+        (λ due ok. alone5_ignores N some_retries n
         x y frame rest (record {
           open_state = s.open_state;
           network = s.network;
           to_user = refl;
           ignored = s.ignored;
           most = s.most;
-        }) k)
-    network_delivers to_user (frame ∷ rest) (alone_6 s k) f =
+        }))
+    network_delivers to_user (frame ∷ rest) (alone_6 s) f =
         literally (ByNetwork Deliver) to_user (frame ∷ rest) [] (frame ∷ rest) s.to_user refl
-        (λ due ok. alone6_ignores N some_retries up n
+        (λ due ok. alone6_ignores N some_retries n
         x y frame rest (record {
           open_state = s.open_state;
           network = s.network;
           to_user = refl;
           ignored = s.ignored;
           most = s.most;
-        }) k)
-    network_delivers to_user to_network (asks_5 s k) f =
+        }))
+    network_delivers to_user to_network (asks_5 s) f =
         literally (λ a b. Facts N (at x y a b) → ByNetwork Deliver a b) to_user to_network []
         (sabme ∷ []) s.to_user s.to_network
-        (λ f due ok. asks5_delivered N some_retries up n
+        (λ f due ok. asks5_delivered N some_retries n
         x y (record { user = s.user; to_user = refl; to_network = refl; most = s.most })
-        (λ is. let e
-        = k is in record { user = e.user; not_6 = e.not_6; network = e.network })
         f.holds f.have.network) f
-    network_delivers to_user to_network (asks_6 s k) f =
+    network_delivers to_user to_network (asks_6 s) f =
         literally (ByNetwork Deliver) to_user to_network to_user (disc ∷ []) refl s.to_network
-        (λ due ok. asks6_delivered N some_retries up n
+        (λ due ok. asks6_delivered N some_retries n
         x y to_user
-        (record { user = s.user; ignored = s.ignored; to_network = refl; most = s.most }) k)
-    network_delivers to_user to_network (accepted s k) f =
+        (record { user = s.user; ignored = s.ignored; to_network = refl; most = s.most }))
+    network_delivers to_user to_network (accepted s) f =
         none_to_network to_user to_network s.to_network
-    network_delivers to_user to_network (crossed s k) f =
+    network_delivers to_user to_network (crossed s) f =
         none_to_network to_user to_network s.to_network
-    network_delivers to_user to_network (refused s k) f =
+    network_delivers to_user to_network (refused s) f =
         none_to_network to_user to_network s.to_network
-    network_delivers to_user to_network (parting s k) f =
+    network_delivers to_user to_network (parting s) f =
         none_to_network to_user to_network s.to_network
-    network_delivers to_user to_network (closed s k) f =
+    network_delivers to_user to_network (closed s) f =
         none_to_network to_user to_network s.to_network
 
     -- a line with a frame for the other side is not empty
@@ -405,12 +384,12 @@ module _ (N : ℕ) (some_retries : 1 ≤ N) (up : Bool) where
     data Quiet (to_user to_network : List Flight) : Type 0 where
       quiet_4 : Alone4 N n (at x y [] []) → to_user ≡ [] → to_network ≡ []
           → Quiet to_user to_network
-      quiet_5 : Alone5 N n (at x y [] []) → (up ≡ true → y.end.release_pending ≡ false)
-          → to_user ≡ [] → to_network ≡ [] → Quiet to_user to_network
-      quiet_6 : Alone6 N n (at x y [] []) → up ≡ false → to_user ≡ [] → to_network ≡ []
+      quiet_5 : Alone5 N n (at x y [] []) → to_user ≡ [] → to_network ≡ []
           → Quiet to_user to_network
-      quiet_closed : Closed N n (at x y [] []) → (up ≡ true → Establishing x.end y.end)
-          → to_user ≡ [] → to_network ≡ [] → Quiet to_user to_network
+      quiet_6 : Alone6 N n (at x y [] []) → to_user ≡ [] → to_network ≡ []
+          → Quiet to_user to_network
+      quiet_closed : Closed N n (at x y [] []) → to_user ≡ [] → to_network ≡ []
+          → Quiet to_user to_network
 
     none_in : (to_user to_network : List Flight) → is_line_empty (at x y to_user to_network) ≡ true
         → (to_user ≡ []) × (to_network ≡ [])
@@ -418,35 +397,35 @@ module _ (N : ℕ) (some_retries : 1 ≤ N) (up : Bool) where
     none_in (f ∷ fs) to_network empty = cc
     none_in [] (f ∷ fs) empty = cc
 
-    quiet_of : (to_user to_network : List Flight) → Half N up n (at x y to_user to_network)
+    quiet_of : (to_user to_network : List Flight) → Half N n (at x y to_user to_network)
         → is_line_empty (at x y to_user to_network) ≡ true → Quiet to_user to_network
     quiet_of to_user to_network (alone_4 s) empty =
         let none = none_in to_user to_network empty in
         quiet_4 (subst (λ l. Alone4 N n (at x y [] l)) none.1
         (subst (λ l. Alone4 N n (at x y l to_network)) none.0 s)) none.0 none.1
-    quiet_of to_user to_network (alone_5 s k) empty =
+    quiet_of to_user to_network (alone_5 s) empty =
         let none = none_in to_user to_network empty in
         quiet_5 (subst (λ l. Alone5 N n (at x y [] l)) none.1
-        (subst (λ l. Alone5 N n (at x y l to_network)) none.0 s)) k none.0 none.1
-    quiet_of to_user to_network (alone_6 s k) empty =
+        (subst (λ l. Alone5 N n (at x y l to_network)) none.0 s)) none.0 none.1
+    quiet_of to_user to_network (alone_6 s) empty =
         let none = none_in to_user to_network empty in
         quiet_6 (subst (λ l. Alone6 N n (at x y [] l)) none.1
-        (subst (λ l. Alone6 N n (at x y l to_network)) none.0 s)) k none.0 none.1
-    quiet_of to_user to_network (closed s k) empty =
+        (subst (λ l. Alone6 N n (at x y l to_network)) none.0 s)) none.0 none.1
+    quiet_of to_user to_network (closed s) empty =
         let none = none_in to_user to_network empty in
         quiet_closed (subst (λ l. Closed N n (at x y [] l)) none.1
-        (subst (λ l. Closed N n (at x y l to_network)) none.0 s)) k none.0 none.1
-    quiet_of to_user to_network (asks_5 s k) empty =
+        (subst (λ l. Closed N n (at x y l to_network)) none.0 s)) none.0 none.1
+    quiet_of to_user to_network (asks_5 s) empty =
         absurd (full_network Expire200 to_user to_network sabme [] s.to_network empty)
-    quiet_of to_user to_network (asks_6 s k) empty =
+    quiet_of to_user to_network (asks_6 s) empty =
         absurd (full_network Expire200 to_user to_network disc [] s.to_network empty)
-    quiet_of to_user to_network (accepted s k) empty =
+    quiet_of to_user to_network (accepted s) empty =
         absurd (full_user to_user to_network ua s.frames s.to_user empty)
-    quiet_of to_user to_network (crossed s k) empty =
+    quiet_of to_user to_network (crossed s) empty =
         absurd (full_user to_user to_network ua [] s.to_user empty)
-    quiet_of to_user to_network (refused s k) empty =
+    quiet_of to_user to_network (refused s) empty =
         absurd (full_user to_user to_network dm [] s.to_user empty)
-    quiet_of to_user to_network (parting s k) empty =
+    quiet_of to_user to_network (parting s) empty =
         absurd (full_parting to_user to_network s.to_user empty)
 
     -- T200 of the user
@@ -454,39 +433,38 @@ module _ (N : ℕ) (some_retries : 1 ≤ N) (up : Bool) where
         → Facts N (at x y to_user to_network) → ByUser Expire200 to_user to_network
     user_t200 to_user to_network (quiet_4 s a b) f =
         literally (ByUser Expire200) to_user to_network [] [] a b
-        (λ due ok. alone4_t200 N some_retries up n x y f.few_user (t200_runs (seeing x [] []) ok) s)
-    user_t200 to_user to_network (quiet_5 s k a b) f =
+        (λ due ok. alone4_t200 N some_retries n x y f.few_user (t200_runs (seeing x [] []) ok) s)
+    user_t200 to_user to_network (quiet_5 s a b) f =
         literally (ByUser Expire200) to_user to_network [] [] a b
-        (λ due ok. alone5_t200 N some_retries up n
-        x y f.few_user (t200_runs (seeing x [] []) ok) s k)
-    user_t200 to_user to_network (quiet_6 s k a b) f =
+        (λ due ok. alone5_t200 N some_retries n
+        x y f.few_user (t200_runs (seeing x [] []) ok) s)
+    user_t200 to_user to_network (quiet_6 s a b) f =
         literally (ByUser Expire200) to_user to_network [] [] a b
-        (λ due ok. alone6_t200 N some_retries up n
-        x y f.few_user (t200_runs (seeing x [] []) ok) s k)
-    user_t200 to_user to_network (quiet_closed s k a b) f =
+        (λ due ok. alone6_t200 N some_retries n
+        x y f.few_user (t200_runs (seeing x [] []) ok) s)
+    user_t200 to_user to_network (quiet_closed s a b) f =
         literally (ByUser Expire200) to_user to_network [] [] a b
-        (λ due ok. closed_t200 n x y s k (t200_runs (seeing x [] []) ok) f.have.user)
+        (λ due ok. closed_t200 n x y s (t200_runs (seeing x [] []) ok) f.have.user)
 
     -- T200 of the network, but for two closed ends
     network_t200 : (to_user to_network : List Flight) → Quiet to_user to_network
         → Facts N (at x y to_user to_network)
-        → (Closed N n
-        (at x y [] []) → (up ≡ true → Establishing x.end y.end) → ByNetwork Expire200 [] [])
+        → (Closed N n (at x y [] []) → ByNetwork Expire200 [] [])
         → ByNetwork Expire200 to_user to_network
     network_t200 to_user to_network (quiet_4 s a b) f other =
         literally (ByNetwork Expire200) to_user to_network [] [] a b
         (λ due ok. absurd (let off = (timers_in TeiAssigned y.end f.have.network s.network).0 in
         let on = t200_runs (seeing y [] []) ok in cc))
-    network_t200 to_user to_network (quiet_5 s k a b) f other =
+    network_t200 to_user to_network (quiet_5 s a b) f other =
         literally (ByNetwork Expire200) to_user to_network [] [] a b
-        (λ due ok. alone5_peer N some_retries up n x y s k (t200_runs (seeing y [] []) ok))
-    network_t200 to_user to_network (quiet_6 s k a b) f other =
+        (λ due ok. alone5_peer N some_retries n x y s f.few_user (t200_runs (seeing y [] []) ok))
+    network_t200 to_user to_network (quiet_6 s a b) f other =
         let empty = empty_6_too (at x y to_user to_network) f.holds s.network in
         literally (ByNetwork Expire200) to_user to_network [] [] a b
-        (λ due ok. alone6_peer N some_retries up n
-        x y s k empty (t200_runs (seeing y [] []) ok))
-    network_t200 to_user to_network (quiet_closed s k a b) f other =
-        literally (ByNetwork Expire200) to_user to_network [] [] a b (other s k)
+        (λ due ok. alone6_peer N some_retries n
+        x y s empty (t200_runs (seeing y [] []) ok))
+    network_t200 to_user to_network (quiet_closed s a b) f other =
+        literally (ByNetwork Expire200) to_user to_network [] [] a b (other s)
 
     -- T203 of the user: only if its peer is in state 4
     both_off : (to_user to_network : List Flight)
@@ -505,8 +483,8 @@ module _ (N : ℕ) (some_retries : 1 ≤ N) (up : Bool) where
             → ByUser Expire203 to_user to_network
         by_state MultipleFrameEstablished is o =
             literally (ByUser Expire203) to_user to_network [] [] a b
-            (λ due ok. alone4_t203 N some_retries up n
-            x y s f.few_user is (t203_runs (seeing x [] []) ok))
+            (λ due ok. alone4_t203 N some_retries n
+            x y s is (t203_runs (seeing x [] []) ok))
         by_state TimerRecovery is o =
             λ due ok. absurd (not_apart x.end y.end is s.network
             (last_of (is_line_empty (at x y to_user to_network))
@@ -514,13 +492,13 @@ module _ (N : ℕ) (some_retries : 1 ≤ N) (up : Bool) where
         by_state TeiAssigned is o = cc
         by_state AwaitingEstablishment is o = cc
         by_state AwaitingRelease is o = cc
-    user_t203 to_user to_network (quiet_5 s k a b) f =
+    user_t203 to_user to_network (quiet_5 s a b) f =
         λ due ok. absurd (neither_on x.end.t200 y.end.t200 (both_off to_user to_network due)
         (timers_in AwaitingEstablishment y.end f.have.network s.network).0)
-    user_t203 to_user to_network (quiet_6 s k a b) f =
+    user_t203 to_user to_network (quiet_6 s a b) f =
         λ due ok. absurd (neither_on x.end.t200 y.end.t200 (both_off to_user to_network due)
         (timers_in AwaitingRelease y.end f.have.network s.network).0)
-    user_t203 to_user to_network (quiet_closed s k a b) f =
+    user_t203 to_user to_network (quiet_closed s a b) f =
         λ due ok. absurd (let off = no_t203_if_closed x.end f.have.user s.user in
         let on = t203_runs (seeing x to_user to_network) ok in cc)
 
@@ -533,77 +511,75 @@ module _ (N : ℕ) (some_retries : 1 ≤ N) (up : Bool) where
         closed_peer : Quiet to_user to_network → y.end.t203 ≡ false
         closed_peer (quiet_4 s a b) =
             no_t203_if_closed y.end f.have.network (ap is_7_or_8 s.network)
-        closed_peer (quiet_5 s k a b) =
+        closed_peer (quiet_5 s a b) =
             no_t203_if_closed y.end f.have.network (ap is_7_or_8 s.network)
-        closed_peer (quiet_6 s k a b) =
+        closed_peer (quiet_6 s a b) =
             no_t203_if_closed y.end f.have.network (ap is_7_or_8 s.network)
-        closed_peer (quiet_closed s k a b) = no_t203_if_closed y.end f.have.network s.network
+        closed_peer (quiet_closed s a b) = no_t203_if_closed y.end f.have.network s.network
 
   -- ---- The two sides exchanged.
 
   abbrev after : Side → PairEvent → World → World
   after s event w = world_after w (happens Whole (record { side = s; event = event }) w)
 
-  coming_swapped : (n : ℕ) (w : World) → ComesOn N up n w → ComesOn N up n (swapped w)
+  coming_swapped : (n : ℕ) (w : World) → ComesOn N n w → ComesOn N n (swapped w)
   coming_swapped n w c = record { some = c.some; arriving = by_coming c.arriving }
     where
-      by_coming : Coming N up (n - 1) w → Coming N up (n - 1) (swapped w)
+      by_coming : Coming N (n - 1) w → Coming N (n - 1) (swapped w)
       by_coming (inl d) = inl (draining_swapped true (n - 1) w d)
       by_coming (inr (inl l)) = inr (inr l)
       by_coming (inr (inr l)) = inr (inl l)
 
   to_network_of : (n : ℕ) (event : PairEvent) (w : World)
-      → ComesOn N up n (after side.User event (swapped w))
-      → ComesOn N up n (after side.Network event w)
+      → ComesOn N n (after side.User event (swapped w))
+      → ComesOn N n (after side.Network event w)
   to_network_of n event w c =
-      subst (λ v. ComesOn N up n v) (sym (network_alike Whole event w))
+      subst (λ v. ComesOn N n v) (sym (network_alike Whole event w))
       (coming_swapped n (after side.User event (swapped w)) c)
 
   to_user_of : (n : ℕ) (event : PairEvent) (w : World)
-      → ComesOn N up n (after side.Network event (swapped w))
-      → ComesOn N up n (after side.User event w)
+      → ComesOn N n (after side.Network event (swapped w))
+      → ComesOn N n (after side.User event w)
   to_user_of n event w c =
-      subst (λ v. ComesOn N up n v) (ap swapped (network_alike Whole event (swapped w)))
+      subst (λ v. ComesOn N n v) (ap swapped (network_alike Whole event (swapped w)))
       (coming_swapped n (after side.Network event (swapped w)) c)
 
   -- T200 of the network, with both ends closed
   closed_network_t200 : (n : ℕ) (x y : Station) → Closed N n (at x y [] [])
-      → (up ≡ true → Establishing x.end y.end) → HasTimersOfState y.end
+      → HasTimersOfState y.end
       → is_ok (acts Whole side.User Expire200 (seeing y [] [])) ≡ true
-      → ComesOn N up n (by_network N some_retries up Expire200 x y [] [])
-  closed_network_t200 n x y s k has ok =
+      → ComesOn N n (by_network Expire200 x y [] [])
+  closed_network_t200 n x y s has ok =
       let w = at x y [] [] in
-      let here : ComesOn N up n (by_user N some_retries up Expire200 y x [] []) =
-      closed_t200 n y x (closed_swapped n w s)
-      (λ holds. establishing_swapped x.end y.end (k holds)) (t200_runs (seeing y [] []) ok)
-      has in
-      coming_swapped n (by_user N some_retries up Expire200 y x [] []) here
+      let here : ComesOn N n (by_user Expire200 y x [] []) =
+      closed_t200 n y x (closed_swapped n w s) (t200_runs (seeing y [] []) ok) has in
+      coming_swapped n (by_user Expire200 y x [] []) here
 
-  half_moves : (n : ℕ) (s : Side) (event : PairEvent) (w : World) → Half N up n w → Facts N w
+  half_moves : (n : ℕ) (s : Side) (event : PairEvent) (w : World) → Half N n w → Facts N w
       → is_due event w ≡ true → is_ok (acts Whole side.User event (view_of s w)) ≡ true
-      → ComesOn N up n (after s event w)
+      → ComesOn N n (after s event w)
   half_moves n side.User Deliver w l f due ok =
-      subst (λ v. ComesOn N up n v) (sym (moved_user Deliver w))
+      subst (λ v. ComesOn N n v) (sym (moved_user Deliver w))
       (user_delivers n w.user w.network w.to_user w.to_network l f due ok)
   half_moves n side.Network Deliver w l f due ok =
-      subst (λ v. ComesOn N up n v) (sym (moved_network Deliver w))
+      subst (λ v. ComesOn N n v) (sym (moved_network Deliver w))
       (network_delivers n w.user w.network w.to_user w.to_network l f due ok)
   half_moves n side.User Expire200 w l f due ok =
-      subst (λ v. ComesOn N up n v) (sym (moved_user Expire200 w)) (user_t200 n
+      subst (λ v. ComesOn N n v) (sym (moved_user Expire200 w)) (user_t200 n
       w.user w.network w.to_user w.to_network
       (quiet_of n w.user w.network w.to_user w.to_network l due) f due ok)
   half_moves n side.Network Expire200 w l f due ok =
-      subst (λ v. ComesOn N up n v) (sym (moved_network Expire200 w)) (network_t200 n
+      subst (λ v. ComesOn N n v) (sym (moved_network Expire200 w)) (network_t200 n
       w.user w.network w.to_user w.to_network
       (quiet_of n w.user w.network w.to_user w.to_network l due) f
-      (λ s k due ok. closed_network_t200 n w.user w.network s k f.have.network ok) due ok)
+      (λ s due ok. closed_network_t200 n w.user w.network s f.have.network ok) due ok)
   half_moves n side.User Expire203 w l f due ok =
-      subst (λ v. ComesOn N up n v) (sym (moved_user Expire203 w)) (user_t203 n
+      subst (λ v. ComesOn N n v) (sym (moved_user Expire203 w)) (user_t203 n
       w.user w.network w.to_user w.to_network (quiet_of n
       w.user w.network w.to_user w.to_network l (first_of (is_line_empty w) _ _ due)) f due
       ok)
   half_moves n side.Network Expire203 w l f due ok =
-      subst (λ v. ComesOn N up n v) (sym (moved_network Expire203 w)) (network_t203 n
+      subst (λ v. ComesOn N n v) (sym (moved_network Expire203 w)) (network_t203 n
       w.user w.network w.to_user w.to_network (quiet_of n
       w.user w.network w.to_user w.to_network l (first_of (is_line_empty w) _ _ due)) f due
       ok)
@@ -614,10 +590,10 @@ module _ (N : ℕ) (some_retries : 1 ≤ N) (up : Bool) where
   module _ (n : ℕ) (x y : Station) (is : x.end.state ≡ TimerRecovery) (on : x.end.t200 ≡ true)
       (last : tries x.end ≡ false) where
     abbrev then : World
-    then = by_user N some_retries up Expire200 x y [] []
+    then = by_user Expire200 x y [] []
 
     asks : is_7_or_8 y.end.state ≡ true → 2 + 2 * unsent x.end + 2 * unsent y.end + 1 ≤ n
-        → ComesOn N up n then
+        → ComesOn N n then
     asks opened most =
         let seen =
         seen_after_t200 x (asking x.end) (sabme ∷ []) on (last_try_in_8 x.end is on last) in
@@ -625,7 +601,7 @@ module _ (N : ℕ) (some_retries : 1 ≤ N) (up : Bool) where
         let bit : twice then.user.end.release_pending ≡ 0 =
         ap (λ (e : End). twice e.release_pending) seen.end in
         let none =
-        open_peer_5 N some_retries up y.end.state
+        open_peer_5 N some_retries y.end.state
         (attempt y.end + gone N y.end + again N then.user.end) (attempt y.end) opened in
         record {
           some = omega (arith, most);
@@ -635,18 +611,10 @@ module _ (N : ℕ) (some_retries : 1 ≤ N) (up : Bool) where
                 to_user = seen.incoming;
                 to_network = seen.outgoing;
                 most = omega (arith, most, same, bit, none);
-              }) (λ _. record {
-                user = ap (λ (e : End). e.release_pending) seen.end;
-                not_6 =
-                    λ in_6. let impossible : is_7_or_8 y.end.state ≡ false = ap is_7_or_8 in_6 in
-                    cc;
-                network =
-                    λ in_5. absurd
-                    (let impossible : is_7_or_8 y.end.state ≡ false = ap is_7_or_8 in_5 in cc);
               })));
         }
 
-    last_try : Draining true n (at x y [] []) → ComesOn N up n then
+    last_try : Draining true n (at x y [] []) → ComesOn N n then
     last_try (inl d) =
         let in_7 = in_state_7 (source x.end) (sink y.end) d.sees.flow.a d.sees.flow.mine in
         absurd (let impossible : TimerRecovery ≡ MultipleFrameEstablished = sym is ∙ in_7 in cc)
@@ -673,7 +641,7 @@ module _ (N : ℕ) (some_retries : 1 ≤ N) (up : Bool) where
       → Draining true n (at x y to_user to_network)
       → is_line_empty (at x y to_user to_network) ≡ true → x.end.state ≡ TimerRecovery
       → tries x.end ≡ false → x.end.t200 ≡ true
-      → ComesOn N up n (by_user N some_retries up Expire200 x y to_user to_network)
+      → ComesOn N n (by_user Expire200 x y to_user to_network)
   last_try_at n x y [] [] d empty is last on = last_try n x y is on last d
   last_try_at n x y (f ∷ fs) to_network d empty is last on = cc
   last_try_at n x y [] (f ∷ fs) d empty is last on = cc
@@ -682,18 +650,18 @@ module _ (N : ℕ) (some_retries : 1 ≤ N) (up : Bool) where
 
   from_draining : (n : ℕ) (s : Side) (event : PairEvent) (w : World) → Draining true n w
       → (event ≡ Expire200 → MayRetry true (view_of s w).station.end) → Facts N w
-      → IsOwn Whole (record { side = s; event = event }) w → ComesOn N up n (after s event w)
+      → IsOwn Whole (record { side = s; event = event }) w → ComesOn N n (after s event w)
   from_draining n s event w d may f own =
       let m = own_moves_on true n (record { side = s; event = event }) w d may f.have own in
       record { some = m.some; arriving = inl m.draining }
 
   user_t200_open : (n : ℕ) (w : World) → Draining true n w → Facts N w
-      → IsOwn Whole (user_move Expire200) w → ComesOn N up n (after side.User Expire200 w)
+      → IsOwn Whole (user_move Expire200) w → ComesOn N n (after side.User Expire200 w)
   user_t200_open n w d f own = by_tries (tries w.user.end) refl
     where
       by_state : (state : State) → w.user.end.state ≡ state → tries w.user.end ≡ false
-          → ComesOn N up n (after side.User Expire200 w)
-      by_state TimerRecovery is last = subst (λ v. ComesOn N up n v) (sym (moved_user Expire200 w))
+          → ComesOn N n (after side.User Expire200 w)
+      by_state TimerRecovery is last = subst (λ v. ComesOn N n v) (sym (moved_user Expire200 w))
           (last_try_at n w.user w.network w.to_user w.to_network d
           own.due is last
           (t200_runs (view_of side.User w) (ok_of_side side.User Expire200 w own.admitted)))
@@ -715,7 +683,7 @@ module _ (N : ℕ) (some_retries : 1 ≤ N) (up : Bool) where
           sym is ∙ in_8 in cc)) f
           own
 
-      by_tries : (b : Bool) → tries w.user.end ≡ b → ComesOn N up n (after side.User Expire200 w)
+      by_tries : (b : Bool) → tries w.user.end ≡ b → ComesOn N n (after side.User Expire200 w)
       by_tries true more = from_draining n side.User Expire200 w d (λ _ _ _. more) f own
       by_tries false last = by_state w.user.end.state refl last
 
@@ -731,9 +699,9 @@ module _ (N : ℕ) (some_retries : 1 ≤ N) (up : Bool) where
           → is_ok (happens Whole (user_move Expire200) (swapped w)) ≡ true
       ok_swapped w ok = user_ok Expire200 (swapped w) ∙ ok
 
-  pub coming_moves : (n : ℕ) (s : Side) (event : PairEvent) (w : World) → Coming N up n w
+  pub coming_moves : (n : ℕ) (s : Side) (event : PairEvent) (w : World) → Coming N n w
       → Facts N w → IsOwn Whole (record { side = s; event = event }) w
-      → ComesOn N up n (after s event w)
+      → ComesOn N n (after s event w)
   coming_moves n side.User Expire200 w (inl d) f own = user_t200_open n w d f own
   coming_moves n side.Network Expire200 w (inl d) f own =
       to_network_of n Expire200 w (user_t200_open n

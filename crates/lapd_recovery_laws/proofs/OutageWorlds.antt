@@ -1,5 +1,5 @@
 -- The worlds of an outage keep the invariant and the timers of their states.
-use Rattle.std.proofs.Common.{◌≡◌, ◌⊎◌, inl, inr, ℕ, ◌*◌, ◌≤◌, not, ◌&&◌, ◌||◌, Bool, true, false, List, ◌∷◌, length, is_ok, refl, sym, subst, ◌∙◌, arith, []}
+use Rattle.std.proofs.Common.{◌≡◌, ◌⊎◌, inl, inr, ℕ, ◌*◌, ◌≤◌, not, ◌&&◌, ◌||◌, Bool, true, false, List, ◌∷◌, length, is_ok, refl, sym, subst, arith, [], ◌∙◌}
 use Rattle.lapd_frame.specs.declared.Side.TheVariants as side
 use Rattle.lapd_mod128.specs.Counting.{Whole}
 use Rattle.lapd_link_definition.specs.declared.state.State.{State}
@@ -18,12 +18,11 @@ use Rattle.lapd_pair_laws.specs.Kinds.{Kind}
 use Rattle.lapd_pair_laws.proofs.Flow.{Source, Sink, Stage, Clean, Waiting, Polling, Answered, IsAt, weight, Stream}
 use Rattle.lapd_pair_laws.proofs.Stepping.{user_move}
 use Rattle.lapd_pair_laws.proofs.Worlds.{exchanged}
-use Rattle.lapd_recovery_laws.specs.AfterOutage.{IsKept}
 use Rattle.lapd_recovery_laws.specs.Own.{is_empty}
+use Rattle.lapd_recovery_laws.specs.WantedLine.{IsKept}
 use Rattle.lapd_recovery_laws.specs.Timers.{HaveTimersOfStates}
 use Rattle.lapd_recovery_laws.proofs.AnyOrder.{ok_in_world}
 use Rattle.lapd_recovery_laws.proofs.Cleared.{AreClearIn5}
-use Rattle.lapd_recovery_laws.proofs.Situations.{Establishing}
 use Rattle.lapd_recovery_laws.proofs.Transitions.{timers_in}
 
 -- ---- Properties that every world keeps.
@@ -129,6 +128,3 @@ released_is_kept e is = record {
 pub turned : {A B : Type 0} → A ⊎ B → B ⊎ A
 turned (inl a) = inr a
 turned (inr b) = inl b
-
-pub establishing_swapped : (x y : End) → Establishing x y → Establishing y x
-establishing_swapped x y w = record { mine = w.its; its = w.mine; either = turned w.either }

@@ -31,7 +31,7 @@ use Rattle.lapd_recovery_laws.proofs.Lost.{at}
 use Rattle.lapd_recovery_laws.proofs.LostMoves.{moved_user}
 use Rattle.lapd_recovery_laws.proofs.OneMoreFrame.{seeing}
 use Rattle.lapd_recovery_laws.proofs.OutageWorlds.{Facts, facts_swapped}
-use Rattle.lapd_recovery_laws.proofs.PeerReleased.{t200_runs, t203_runs, ok_of_side}
+use Rattle.lapd_recovery_laws.proofs.OwnBySide.{t200_runs, t203_runs, ok_of_side}
 use Rattle.lapd_recovery_laws.proofs.Renewals.{HandlesIn}
 use Rattle.lapd_recovery_laws.proofs.Rejoins.{in_7}
 use Rattle.lapd_recovery_laws.proofs.StaysOpen.{awaits_none}

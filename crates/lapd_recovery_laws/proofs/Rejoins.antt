@@ -40,7 +40,7 @@ use Rattle.lapd_recovery_laws.proofs.LostMoves.{moved_user}
 use Rattle.lapd_recovery_laws.proofs.OneMoreFrame.{seeing}
 use Rattle.lapd_recovery_laws.proofs.OpenFrames.{IsSabme, IsDisc, requested}
 use Rattle.lapd_recovery_laws.proofs.OutageWorlds.{Facts, facts_swapped, first_of, second_of, released_is_kept}
-use Rattle.lapd_recovery_laws.proofs.PeerReleased.{t200_runs, t203_runs, ok_of_side, last_of}
+use Rattle.lapd_recovery_laws.proofs.OwnBySide.{t200_runs, t203_runs, ok_of_side, last_of}
 use Rattle.lapd_recovery_laws.proofs.Renewals.{request_in, under_way, request, open_requests_none, HasStayed, HandlesIn}
 use Rattle.lapd_recovery_laws.proofs.StaysOpen.{AwaitsNone, awaits_none}
 use Rattle.lapd_recovery_laws.proofs.TimersBeside.{t200_beside, t203_beside}
@@ -640,9 +640,6 @@ pub record AreFew (n : ℕ) (moves : List Move) (w : World) : Type 0 where
   pub apart : apart_t203s moves w ≤ t203s_out_of_step Whole moves w + n
 
 module _ (N : ℕ) where
-  abbrev Next : Side → PairEvent → World → World
-  Next s event w = after s event w
-
   early_one : (w : World) → is_due Expire203 w ≡ false → one_if (is_early_t203 Expire203 w) ≡ 1
   early_one w not_due = ap (λ b. one_if (not b)) not_due
 

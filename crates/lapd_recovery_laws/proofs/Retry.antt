@@ -24,7 +24,7 @@ use Rattle.lapd_pair_laws.proofs.Flow.{source, sink, Polling, burden, Stream, Fl
 use Rattle.lapd_pair_laws.proofs.StreamReceipts as receives
 use Rattle.lapd_pair_laws.proofs.WorkOfActions.{Draws}
 use Rattle.lapd_pair_laws.proofs.WorkOfClosing.{draws_close, ready_enquiry}
-use Rattle.lapd_pair_laws.proofs.Drains.{Seen, mine_open, after_step, preserved_after}
+use Rattle.lapd_pair_laws.proofs.Drains.{Seen, mine_open, after_step}
 use Rattle.lapd_pair_laws.proofs.SettledEnds.{closed_step}
 use Rattle.lapd_pair_laws.proofs.States.{enquiry_puts}
 
@@ -102,12 +102,3 @@ module _ (station peer : Station) (n : ℕ) where
       (λ _. after_step [] 0 n
       v peer [] 0 0 done (closed_step (Expiry T200) e done refl) (mine_open d.flow) its_idle
       tt d) (λ off. cc)
-
-  pub preserved_retried : e.t200 ≡ true → Retries e peer.end n
-      → (left_by v (acts Whole side.User Expire200 v)).station.history.dropped
-      ≡ v.station.history.dropped
-  unfolding acts expires_200 takes step
-  preserved_retried on r =
-      by_test (λ (o : Result ViewStep Refusal). (left_by v o).station.history.dropped ≡
-      v.station.history.dropped) e.t200 _ _
-      (λ _. preserved_after [] 0 n v peer [] 0 0 done (draws_row on r)) (λ off. cc)

@@ -360,40 +360,66 @@ module _ (user network : Parameters) (user_small : user.k ≤ 127) (network_smal
     few_network = few_network;
   }
 
-  abbrev N : ℕ
-  N = reached.user.end.parameters.n200 + reached.network.end.parameters.n200
-
-  few_whole : (deliveries : List Move) → AreDeliveries Whole deliveries reached
-      → length deliveries ≤ most_deliveries reached
-  few_whole deliveries are =
-      deliveries_few N (most_deliveries reached) reached deliveries
-      (facts N (omega arith) (omega arith)) (flow_begins reached holds preserved) are
-
-  nothing_left : (r : Reading) (w : World) → NothingArrives r w → is_line_empty w ≡ true
-  nothing_left r w none = line_is_empty r w.user w.network w.to_user w.to_network none
-
-  runs_empty_by : (r : Reading) → RunsEmpty r (run r moves (new_world user network))
-  runs_empty_by Whole = record {
-    few = few_whole;
-    empty = λ deliveries are none. nothing_left Whole (run Whole deliveries reached) none;
-  }
-  runs_empty_by Tagged =
+  -- a law with a premise holds in both readings, if both carry over to tags and back
+  pub by_readings : (Premise : World → Type 0) (Law : Reading → World → Type 0)
+      → ((w : World) → Premise (tag_world w) → Premise w)
+      → ((w : World) → IsInvariant w → IsConsistentWorld Whole w → Law Whole w
+      → Law Tagged (tag_world w))
+      → (Premise reached → Law Whole reached) → (r : Reading)
+      → Premise (run r moves (new_world user network)) → Law r (run r moves (new_world user network))
+  by_readings Premise Law by_tags on_tags whole Whole p = whole p
+  by_readings Premise Law by_tags on_tags whole Tagged p =
       let same : run Tagged moves (new_world user network) ≡ tag_world reached =
       reached_tags user network user_small network_small moves in
-      subst (λ w. RunsEmpty Tagged w) (sym same) (record {
-        few = λ deliveries are.
-            let l = left_on_tags reached in
-            let f = frames_on_tags reached in
-            let few =
-            few_whole deliveries
-            (deliveries_by_tags deliveries reached holds preserved are) in
-            omega (arith, l, f, few);
-        empty =
-            λ deliveries are none. nothing_left Tagged (run Tagged deliveries (tag_world reached))
-            none;
-      })
+      subst (λ w. Law Tagged w) (sym same)
+      (on_tags reached holds preserved (whole (by_tags reached (subst (λ w. Premise w) same p))))
+
+-- the same of a law on every world with the facts of a run
+pub after_runs : (Premise : World → Type 0) (Law : Reading → World → Type 0)
+    → ((w : World)
+    → ((N : ℕ) → w.user.end.parameters.n200 ≤ N → w.network.end.parameters.n200 ≤ N → Facts N w)
+    → IsConsistentWorld Whole w → Premise w → Law Whole w)
+    → ((w : World) → Premise (tag_world w) → Premise w)
+    → ((w : World) → IsInvariant w → IsConsistentWorld Whole w → Law Whole w
+    → Law Tagged (tag_world w))
+    → (r : Reading) (user network : Parameters) → user.k ≤ 127 → network.k ≤ 127 → 1 ≤ user.k
+    → 1 ≤ network.k → (moves : List Move) → Premise (run r moves (new_world user network))
+    → Law r (run r moves (new_world user network))
+after_runs Premise Law whole by_tags on_tags r user network u n us ns moves p =
+    by_readings user network u n us ns moves Premise Law by_tags on_tags
+    (λ q. whole (run Whole moves (new_world user network)) (facts user network u n us ns moves)
+    (preserved user network u n us ns moves) q) r p
+
+runs_empty : (w : World)
+    → ((N : ℕ) → w.user.end.parameters.n200 ≤ N → w.network.end.parameters.n200 ≤ N → Facts N w)
+    → IsConsistentWorld Whole w → RunsEmpty Whole w
+runs_empty w facts_of preserved =
+    let N = w.user.end.parameters.n200 + w.network.end.parameters.n200 in
+    let f = facts_of N (omega arith) (omega arith) in
+    record {
+      few = λ deliveries are.
+          deliveries_few N (most_deliveries w) w deliveries f (flow_begins w f.holds preserved) are;
+      empty = λ deliveries are none.
+          let now = run Whole deliveries w in
+          line_is_empty Whole now.user now.network now.to_user now.to_network none;
+    }
+
+on_tags : (w : World) → IsInvariant w → IsConsistentWorld Whole w → RunsEmpty Whole w
+    → RunsEmpty Tagged (tag_world w)
+on_tags w i preserved c = record {
+  few = λ deliveries are.
+      let l = left_on_tags w in
+      let f = frames_on_tags w in
+      let few = c.few deliveries (deliveries_by_tags deliveries w i preserved are) in
+      omega (arith, l, f, few);
+  empty = λ deliveries are none.
+      let now = run Tagged deliveries (tag_world w) in
+      line_is_empty Tagged now.user now.network now.to_user now.to_network none;
+}
 
 pub every_line_runs_empty : (r : Reading) (user network : Parameters) → user.k ≤ 127
     → network.k ≤ 127 → 1 ≤ user.k → 1 ≤ network.k → (moves : List Move)
     → RunsEmpty r (run r moves (new_world user network))
-every_line_runs_empty r user network u n us ns moves = runs_empty_by user network u n us ns moves r
+every_line_runs_empty r user network u n us ns moves =
+    after_runs (λ w. Unit {0}) (λ r w. RunsEmpty r w) (λ w facts preserved p. runs_empty w facts preserved)
+    (λ w p. tt) on_tags r user network u n us ns moves tt

@@ -16,7 +16,7 @@ use Rattle.lapd_link_definition.specs.EndOfStep.{is_7_or_8, is_established, may_
 use Rattle.lapd_link_definition.specs.End.{End, StepState, ◌▷◌, begin, unsent, waiting}
 use Rattle.lapd_link_definition.specs.Established.{in_7_and_8, multiple_frame_established}
 use Rattle.lapd_link_definition.specs.Input.{Heard}
-use Rattle.lapd_link_definition.specs.Procedures.{out_where, put, state_to, start, stop, clear_exception_conditions, zero_state_variables, discard_unacknowledged, transmit_i_frame, ensure_t200}
+use Rattle.lapd_link_definition.specs.Procedures.{out_where, put, state_to, start, stop, clear_exception_conditions, zero_state_variables, discard_unacknowledged, transmit_i_frame, ensure_t200, counted}
 use Rattle.lapd_link_definition.specs.Table.{by_state, row, step}
 use Rattle.lapd_link_definition.specs.TimerRecovery.{timer_recovery}
 use Rattle.lapd_link_definition.proofs.Sending.{both_true, below}
@@ -32,8 +32,27 @@ use Rattle.lapd_pair_laws.proofs.Steps.{context}
 use Rattle.lapd_pair_laws.proofs.States.{next_sent, next_puts, ensure_puts}
 use Rattle.lapd_pair_laws.proofs.Worlds.{left_by}
 use Rattle.lapd_recovery_laws.proofs.OneMoreFrame.{seeing}
-use Rattle.lapd_recovery_laws.proofs.Establishes.{discards_by, by_outstanding}
 use Rattle.lapd_recovery_laws.proofs.LoneSteps.{is_ignored, sabme, ua, and_off}
+
+-- ---- Messages of the last establishment are dropped, if any is outstanding.
+
+abbrev pub discards_by : Bool → StepState → StepState
+discards_by none s = record {
+  end = record (s.end) {
+    first = if none then s.end.first else length s.end.given;
+    next = if none then s.end.next else length s.end.given;
+  };
+  outs = s.outs ++ (if none then [] else counted (waiting s.end) Dropped ++ Established ∷ []);
+}
+
+pub by_outstanding : (P : StepState → Type 0) (s : StepState) → P (discards_by true s)
+    → P (discards_by false s) → P (discard_unacknowledged s)
+unfolding discard_unacknowledged
+by_outstanding P s same other = cases (s.end.window.vs == s.end.window.va)
+  where
+    cases : (test : Bool) → P (discards_by test s)
+    cases true = same
+    cases false = other
 
 abbrev pub AreIgnored : List Flight → Type 0
 AreIgnored [] = Unit {0}

@@ -18,7 +18,6 @@ use Rattle.lapd_pair_laws.specs.Kinds.{kinds, messages}
 use Rattle.lapd_pair_laws.proofs.Drains.{Drains}
 use Rattle.lapd_pair_laws.proofs.Flow.{source, sink, IsWhole, Clean, Stream}
 use Rattle.lapd_pair_laws.proofs.Worlds.{left_by}
-use Rattle.lapd_recovery_laws.specs.AfterOutage.{IsKept}
 use Rattle.lapd_recovery_laws.proofs.AnyOrder.{Draining}
 use Rattle.lapd_recovery_laws.proofs.OneMoreFrame.{seeing}
 use Rattle.lapd_recovery_laws.proofs.ClosedSteps.{Sees, seen_after_t200}
@@ -48,23 +47,17 @@ attempt_in state tried leaving = 0
 abbrev pub attempt : End → ℕ
 attempt e = attempt_in e.state (tries e) e.release_pending
 
--- in state 5, with a retransmission left
-abbrev pub MayTry : End → Type 0
-MayTry e = (e.state ≡ AwaitingEstablishment) × (tries e ≡ true)
+-- the polls of an open end whose peer is in state 4
+abbrev pub finds_in : State → ℕ → ℕ → ℕ
+finds_in TimerRecovery all left = 2 * left + 3
+finds_in state all left = 2 * all + 5
 
--- both ends are closed, neither releases, and one establishes
-pub record Establishing (x y : End) : Type 0 where
-  pub mine : IsKept x
-  pub its : IsKept y
-  pub either : MayTry x ⊎ MayTry y
+abbrev pub finds : End → ℕ
+finds e = finds_in e.state e.parameters.n200 (e.parameters.n200 - e.rc)
 
 pub not_both : (b : Bool) → b ≡ false → b ≡ true → ⊥
 not_both true off on = cc
 not_both false off on = cc
-
-pub false_if : (b : Bool) → (b ≡ true → ⊥) → b ≡ false
-false_if true impossible = absurd (impossible refl)
-false_if false impossible = refl
 
 module _ (N : ℕ) where
   -- after an end in state 5 has given up, an open peer finds it in state 4
@@ -84,14 +77,7 @@ module _ (N : ℕ) where
   abbrev pub again : End → ℕ
   again e = again_in (e.window.vs == e.window.va) (unsent e)
 
-  -- the polls of an open end whose peer is in state 4, or in state 5
-  abbrev pub finds_in : State → ℕ → ℕ
-  finds_in TimerRecovery left = 2 * left + 3
-  finds_in state left = 2 * N + 5
-
-  abbrev pub finds : End → ℕ
-  finds e = finds_in e.state (e.parameters.n200 - e.rc)
-
+  -- and in state 5
   abbrev pub polls_in : State → Bool → ℕ → ℕ
   polls_in TimerRecovery t200 left = 2 * left + 3
   polls_in state true left = 2 * N + 3
@@ -212,35 +198,24 @@ module _ (N : ℕ) where
     pub most : attempt w.user.end + attempt w.network.end + 2 * unsent w.user.end
         + 2 * unsent w.network.end + sends + leaves ≤ n
 
-  -- neither end releases while the SABME of x is in transit
-  pub record NoneReleases (w : World) : Type 0 where
-    pub user : w.user.end.release_pending ≡ false
-    pub not_6 : w.network.end.state ≡ AwaitingRelease → ⊥
-    pub network : w.network.end.state ≡ AwaitingEstablishment
-        → w.network.end.release_pending ≡ false
+  pub data Half (n : ℕ) (w : World) : Type 0 where
+    alone_4 : Alone4 n w → Half n w
+    alone_5 : Alone5 n w → Half n w
+    alone_6 : Alone6 n w → Half n w
+    asks_5 : Asks5 n w → Half n w
+    asks_6 : Asks6 n w → Half n w
+    accepted : Accepted n w → Half n w
+    crossed : Crossed n w → Half n w
+    refused : Refused n w → Half n w
+    parting : Parting n w → Half n w
+    closed : Closed n w → Half n w
 
-  -- if `up`, no end releases, and the link is open or an establishment is under way
-  pub data Half (up : Bool) (n : ℕ) (w : World) : Type 0 where
-    alone_4 : Alone4 n w → Half up n w
-    alone_5 : Alone5 n w → (up ≡ true → w.network.end.release_pending ≡ false) → Half up n w
-    alone_6 : Alone6 n w → up ≡ false → Half up n w
-    asks_5 : Asks5 n w → (up ≡ true → NoneReleases w) → Half up n w
-    asks_6 : Asks6 n w → up ≡ false → Half up n w
-    accepted : Accepted n w → (up ≡ true → w.user.end.release_pending ≡ false) → Half up n w
-    crossed : Crossed n w
-        → (up ≡ true
-        → (w.user.end.release_pending ≡ false) × (w.network.end.release_pending ≡ false))
-        → Half up n w
-    refused : Refused n w → up ≡ false → Half up n w
-    parting : Parting n w → up ≡ false → Half up n w
-    closed : Closed n w → (up ≡ true → Establishing w.user.end w.network.end) → Half up n w
+  abbrev pub Coming : ℕ → World → Type 0
+  Coming n w = Draining true n w ⊎ (Half n w ⊎ Half n (swapped w))
 
-  abbrev pub Coming : Bool → ℕ → World → Type 0
-  Coming up n w = Draining true n w ⊎ (Half up n w ⊎ Half up n (swapped w))
-
-  pub record ComesOn (up : Bool) (n : ℕ) (now : World) : Type 0 where
+  pub record ComesOn (n : ℕ) (now : World) : Type 0 where
     pub some : 1 ≤ n
-    pub arriving : Coming up (n - 1) now
+    pub arriving : Coming (n - 1) now
 
   -- ---- T200 of an open end expires on an empty line: it polls, or establishes anew.
 
@@ -275,7 +250,8 @@ module _ (N : ℕ) where
         let left : v.station.end.parameters.n200 - v.station.end.rc ≡ x.end.parameters.n200 - rc =
         ap (λ q. q.n200 - v.station.end.rc) p.polled.parameters
         ∙ ap (λ m. x.end.parameters.n200 - m) p.polled.rc_is in (
-          ap (λ st. finds_in st (v.station.end.parameters.n200 - v.station.end.rc)) p.polled.in_8
+          ap (λ st. finds_in st v.station.end.parameters.n200
+              (v.station.end.parameters.n200 - v.station.end.rc)) p.polled.in_8
               ∙ ap (λ l. 2 * l + 3) left,
           ap (λ st. polls_in st v.station.end.t200
               (v.station.end.parameters.n200 - v.station.end.rc)) p.polled.in_8
@@ -306,20 +282,21 @@ module _ (N : ℕ) where
 
     from_7 : x.end.state ≡ MultipleFrameEstablished → PollsOn x v
     from_7 is =
-        let finds_is : finds x.end ≡ 2 * N + 5 =
-        ap (λ st. finds_in st (x.end.parameters.n200 - x.end.rc)) is in
+        let finds_is : finds x.end ≡ 2 * x.end.parameters.n200 + 5 =
+        ap (λ st. finds_in st x.end.parameters.n200 (x.end.parameters.n200 - x.end.rc)) is in
         let polls_is : polls x.end ≡ 2 * N + 3 =
         ap (λ st. polls_in st x.end.t200 (x.end.parameters.n200 - x.end.rc)) is
         ∙ ap (λ b. polls_in MultipleFrameEstablished b (x.end.parameters.n200 - x.end.rc))
         on in
-        polled 1 (polls_by_t200 x is on) (omega (arith, finds_is, few, some))
+        polled 1 (polls_by_t200 x is on) (omega (arith, finds_is))
         (omega (arith, polls_is, few, some))
 
     from_8 : x.end.state ≡ TimerRecovery → PollsOn x v ⊎ AsksAnew x v
     from_8 is = by_tries (nat_lt x.end.rc x.end.parameters.n200) refl
       where
         finds_is : finds x.end ≡ 2 * (x.end.parameters.n200 - x.end.rc) + 3
-        finds_is = ap (λ st. finds_in st (x.end.parameters.n200 - x.end.rc)) is
+        finds_is =
+            ap (λ st. finds_in st x.end.parameters.n200 (x.end.parameters.n200 - x.end.rc)) is
 
         polls_is : polls x.end ≡ 2 * (x.end.parameters.n200 - x.end.rc) + 3
         polls_is = ap (λ st. polls_in st x.end.t200 (x.end.parameters.n200 - x.end.rc)) is

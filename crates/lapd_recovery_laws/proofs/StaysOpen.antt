@@ -36,7 +36,7 @@ use Rattle.lapd_recovery_laws.proofs.OneMoreFrame.{seeing}
 use Rattle.lapd_recovery_laws.proofs.CountedMoves.{after}
 use Rattle.lapd_recovery_laws.proofs.EndSends.{kinds_append}
 use Rattle.lapd_recovery_laws.proofs.LosesFrame.{user_loses}
-use Rattle.lapd_recovery_laws.proofs.PeerReleased.{t200_runs, t203_runs, ok_of_side, last_of}
+use Rattle.lapd_recovery_laws.proofs.OwnBySide.{t200_runs, t203_runs, ok_of_side, last_of}
 use Rattle.lapd_recovery_laws.proofs.LoneSteps.{Polls, polls_by_t200, polls_by_t203, polls_again}
 use Rattle.lapd_recovery_laws.proofs.Lost.{at}
 use Rattle.lapd_recovery_laws.proofs.LostMoves.{moved_user}

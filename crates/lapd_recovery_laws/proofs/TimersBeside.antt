@@ -40,7 +40,7 @@ use Rattle.lapd_recovery_laws.proofs.OneMoreFrame.{seeing}
 use Rattle.lapd_recovery_laws.proofs.ClosedSteps.{Sees, seen_after_t200, released, retried, retry_in_6, give_up_in_6}
 use Rattle.lapd_recovery_laws.proofs.EndSends.{kinds_append}
 use Rattle.lapd_recovery_laws.proofs.HalfSteps.{disc, asked_again, abandoned, retry_in_5, give_up_in_5}
-use Rattle.lapd_recovery_laws.proofs.PeerReleased.{t200_runs, t203_runs, ok_of_side}
+use Rattle.lapd_recovery_laws.proofs.OwnBySide.{t200_runs, t203_runs, ok_of_side}
 use Rattle.lapd_recovery_laws.proofs.LoneSteps.{Polls, polls_by_t200, polls_by_t203, polls_again, sabme, asking, last_try_in_8}
 use Rattle.lapd_recovery_laws.proofs.Lost.{at}
 use Rattle.lapd_recovery_laws.proofs.LostMoves.{moved_user}

@@ -18,7 +18,7 @@ use Rattle.lapd_pair_laws.specs.World.{World, swapped, view_of, happens}
 use Rattle.lapd_pair_laws.proofs.Lists.{tally_append}
 use Rattle.lapd_pair_laws.proofs.Swaps.{network_alike}
 use Rattle.lapd_pair_laws.proofs.Worlds.{left_by}
-use Rattle.lapd_recovery_laws.specs.AfterOutage.{IsKept}
+use Rattle.lapd_recovery_laws.specs.WantedLine.{IsKept}
 use Rattle.lapd_recovery_laws.specs.Timers.{HaveTimersOfStates}
 use Rattle.lapd_recovery_laws.proofs.ClosedSteps.{Sees, seen_after_t200}
 use Rattle.lapd_recovery_laws.proofs.CountedMoves.{after}
@@ -29,7 +29,7 @@ use Rattle.lapd_recovery_laws.proofs.LoneSteps.{Polls, is_ignored, polls_by_t200
 use Rattle.lapd_recovery_laws.proofs.LostMoves.{moved_user}
 use Rattle.lapd_recovery_laws.proofs.OneMoreFrame.{seeing}
 use Rattle.lapd_recovery_laws.proofs.OutageWorlds.{released_is_kept}
-use Rattle.lapd_recovery_laws.proofs.PeerReleased.{t200_runs, t203_runs, ok_of_side}
+use Rattle.lapd_recovery_laws.proofs.OwnBySide.{t200_runs, t203_runs, ok_of_side}
 use Rattle.lapd_recovery_laws.proofs.StaysOpen.{awaits_none}
 use Rattle.lapd_recovery_laws.proofs.TimersBeside.{IsBeside, t200_beside, t203_beside}
 use Rattle.lapd_recovery_laws.proofs.Transitions.{timers_in}

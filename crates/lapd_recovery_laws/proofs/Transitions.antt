@@ -22,7 +22,7 @@ use Rattle.lapd_recovery_laws.proofs.LoneSteps.{is_ignored, polls_by_t203, sabme
 use Rattle.lapd_recovery_laws.proofs.Lost.{at}
 use Rattle.lapd_recovery_laws.proofs.LostMoves.{seen_by_network}
 use Rattle.lapd_recovery_laws.proofs.SendsOn.{AreIgnored}
-use Rattle.lapd_recovery_laws.proofs.Situations.{tries, twice, attempt_in, attempt, gone_in, gone, again, finds_in, finds, polls_in, polls, Alone, Alone4, Alone5, Alone6, by_peer_5, Asks5, by_peer_6, alone_4, alone_5, alone_6, asks_5, asks_6, NoneReleases, not_both, ComesOn, PollsOn, AsksAnew, t200_of_open}
+use Rattle.lapd_recovery_laws.proofs.Situations.{tries, twice, attempt_in, attempt, gone_in, gone, again, finds_in, finds, polls_in, polls, Alone, Alone4, Alone5, Alone6, by_peer_5, Asks5, by_peer_6, alone_4, alone_5, alone_6, asks_5, asks_6, ComesOn, PollsOn, AsksAnew, t200_of_open}
 
 pub literally : (P : List Flight → List Flight → Type 0) (a b c d : List Flight) → a ≡ c → b ≡ d
     → P c d → P a b
@@ -58,19 +58,22 @@ attempt_is state tried e is some =
 abbrev pub state_of : End → State
 state_of e = e.state
 
-module _ (N : ℕ) (some_retries : 1 ≤ N) (up : Bool) where
-  -- ---- A world after an event.
+pub none_left : (e : End) → length e.given ≡ e.next → unsent e ≡ 0
+none_left e all = omega (arith, all)
 
-  abbrev pub by_user : PairEvent → Station → Station → List Flight → List Flight → World
-  by_user event x y to_user to_network =
-      with_view side.User (left_by (seeing x to_user to_network)
-      (acts Whole side.User event (seeing x to_user to_network))) (at x y to_user to_network)
+-- ---- A world after an event.
 
-  abbrev pub by_network : PairEvent → Station → Station → List Flight → List Flight → World
-  by_network event x y to_user to_network =
-      seen_by_network (left_by (seeing y to_network to_user)
-      (acts Whole side.User event (seeing y to_network to_user))) (at x y to_user to_network)
+abbrev pub by_user : PairEvent → Station → Station → List Flight → List Flight → World
+by_user event x y to_user to_network =
+    with_view side.User (left_by (seeing x to_user to_network)
+    (acts Whole side.User event (seeing x to_user to_network))) (at x y to_user to_network)
 
+abbrev pub by_network : PairEvent → Station → Station → List Flight → List Flight → World
+by_network event x y to_user to_network =
+    seen_by_network (left_by (seeing y to_network to_user)
+    (acts Whole side.User event (seeing y to_network to_user))) (at x y to_user to_network)
+
+module _ (N : ℕ) (some_retries : 1 ≤ N) where
   pub gone_is : (tried : Bool) (e : End) → tries e ≡ tried → gone N e ≡ gone_in N tried
   gone_is tried e some = ap (λ b. gone_in N b) some
 
@@ -107,9 +110,8 @@ module _ (N : ℕ) (some_retries : 1 ≤ N) (up : Bool) where
         let v = p.sees in
         let same_unsent : unsent then.user.end ≡ unsent x.end = ap unsent v.end in
         let same_again : again N then.user.end ≡ again N x.end = again_of_asking v.end in
-        let stays : then.user.end.release_pending ≡ false =
-        ap (λ (e : End). e.release_pending) v.end in
-        let bit : twice then.user.end.release_pending ≡ 0 = ap twice stays in
+        let bit : twice then.user.end.release_pending ≡ 0 =
+        ap (λ (e : End). twice e.release_pending) v.end in
         let peer : by_peer_5 N y.end.state (attempt y.end + gone N y.end + again N then.user.end)
         (attempt y.end)
         ≡ by_peer_5 N y.end.state (attempt y.end + gone N y.end + again N x.end) (attempt y.end)
@@ -125,18 +127,6 @@ module _ (N : ℕ) (some_retries : 1 ≤ N) (up : Bool) where
       where
         again_of_asking : then.user.end ≡ asking x.end → again N then.user.end ≡ again N x.end
         again_of_asking is = ap (again N) is ∙ again_of x.end
-
-  none_releases : (n : ℕ) (x y : Station) (few : x.end.parameters.n200 ≤ N) (on : x.end.t200 ≡ true)
-      → AsksAnew N x (left_by (seeing x [] []) (acts Whole side.User Expire200 (seeing x [] [])))
-      → (y.end.state ≡ AwaitingRelease → ⊥)
-      → (y.end.state ≡ AwaitingEstablishment → y.end.release_pending ≡ false)
-      → NoneReleases N (by_user Expire200 x y [] [])
-  none_releases n x y few on a not_6 stays =
-      let seen = a.sees in
-      record { user = ap (λ (e : End). e.release_pending) seen.end; not_6 = not_6; network = stays }
-
-  other_state : (a b c : State) → a ≡ b → a ≡ c → b ≡ c
-  other_state a b c is is_too = sym is ∙ is_too
 
   -- ---- Weights by the state of the peer.
 
@@ -155,21 +145,20 @@ module _ (N : ℕ) (some_retries : 1 ≤ N) (up : Bool) where
   closed_peer_6 TimerRecovery w o = cc
   closed_peer_6 state w o = refl
 
-  finds_below : (e : End) → is_7_or_8 e.state ≡ true → finds N e ≤ polls N e + (2 * N + 5)
-  finds_below e opened = by_state e.state refl opened
+  finds_below : (e : End) → e.parameters.n200 ≤ N → is_7_or_8 e.state ≡ true
+      → finds e ≤ polls N e + (2 * N + 5)
+  finds_below e few opened = by_state e.state refl opened
     where
       by_state : (state : State) → e.state ≡ state → is_7_or_8 state ≡ true
-          → finds N e ≤ polls N e + (2 * N + 5)
+          → finds e ≤ polls N e + (2 * N + 5)
       by_state MultipleFrameEstablished is o =
-          let f = ap (λ st. finds_in N st (e.parameters.n200 - e.rc)) is in omega (arith, f)
+          let f = ap (λ st. finds_in st e.parameters.n200 (e.parameters.n200 - e.rc)) is in
+          omega (arith, f, few)
       by_state TimerRecovery is o =
-          let f = ap (λ st. finds_in N st (e.parameters.n200 - e.rc)) is in
+          let f = ap (λ st. finds_in st e.parameters.n200 (e.parameters.n200 - e.rc)) is in
           let p = ap (λ st. polls_in N st e.t200 (e.parameters.n200 - e.rc)) is in
           omega (arith, f, p)
       by_state state is o = cc
-
-  pub none_left : (e : End) → length e.given ≡ e.next → unsent e ≡ 0
-  none_left e all = omega (arith, all)
 
   -- ---- T200 of the open end.
 
@@ -177,7 +166,7 @@ module _ (N : ℕ) (some_retries : 1 ≤ N) (up : Bool) where
     abbrev after_t200 : World
     after_t200 = by_user Expire200 x y [] []
 
-    pub alone4_t200 : Alone4 N n (at x y [] []) → ComesOn N up n after_t200
+    pub alone4_t200 : Alone4 N n (at x y [] []) → ComesOn N n after_t200
     alone4_t200 s = elim (t200_of_open N some_retries x few on s.open_state) [
       | inl p ↦
           let le = s.most in let less = p.finds_less in
@@ -185,7 +174,7 @@ module _ (N : ℕ) (some_retries : 1 ≤ N) (up : Bool) where
             some = omega (arith, le, less);
             arriving =
                 inr (inl (alone_4 (still_alone n
-                x y few on TeiAssigned (finds N after_t200.user.end) (n - 1) s.network
+                x y few on TeiAssigned (finds after_t200.user.end) (n - 1) s.network
                 p (omega (arith, le, less)))));
           }
       | inr a ↦
@@ -197,21 +186,12 @@ module _ (N : ℕ) (some_retries : 1 ≤ N) (up : Bool) where
             some = omega (arith, le, more);
             arriving =
                 inr (inl (asks_5
-                (asks_anew n x y few on (n - 1) a (omega (arith, le, more, none)))
-                (λ _. none_releases n
-                x y few on a
-                (λ in_6. let impossible =
-                other_state _ TeiAssigned AwaitingRelease s.network in_6 in cc)
-                (λ in_5. absurd
-                (let impossible =
-                other_state _ TeiAssigned AwaitingEstablishment s.network
-                in_5 in
-                cc)))));
+                (asks_anew n x y few on (n - 1) a (omega (arith, le, more, none)))));
           }
     ]
 
-    pub alone6_t200 : Alone6 N n (at x y [] []) → up ≡ false → ComesOn N up n after_t200
-    alone6_t200 s k = elim (t200_of_open N some_retries x few on s.open_state) [
+    pub alone6_t200 : Alone6 N n (at x y [] []) → ComesOn N n after_t200
+    alone6_t200 s = elim (t200_of_open N some_retries x few on s.open_state) [
       | inl p ↦
           let le = s.most in let less = p.finds_less in
           record {
@@ -219,8 +199,8 @@ module _ (N : ℕ) (some_retries : 1 ≤ N) (up : Bool) where
             arriving =
                 inr (inl (alone_6 (still_alone n
                 x y few on AwaitingRelease
-                (attempt y.end + finds N after_t200.user.end) (n - 1) s.network p
-                (omega (arith, le, less))) k));
+                (attempt y.end + finds after_t200.user.end) (n - 1) s.network p
+                (omega (arith, le, less)))));
           }
       | inr a ↦
           let le = s.most in let more = a.finds_some in
@@ -231,14 +211,12 @@ module _ (N : ℕ) (some_retries : 1 ≤ N) (up : Bool) where
             some = omega (arith, le, more);
             arriving =
                 inr (inl (asks_5
-                (asks_anew n x y few on (n - 1) a (omega (arith, le, more, only)))
-                (λ is. absurd (not_both up k is))));
+                (asks_anew n x y few on (n - 1) a (omega (arith, le, more, only)))));
           }
     ]
 
-    pub alone5_t200 : Alone5 N n (at x y [] []) → (up ≡ true → y.end.release_pending ≡ false)
-        → ComesOn N up n after_t200
-    alone5_t200 s k = elim (t200_of_open N some_retries x few on s.open_state) [
+    pub alone5_t200 : Alone5 N n (at x y [] []) → ComesOn N n after_t200
+    alone5_t200 s = elim (t200_of_open N some_retries x few on s.open_state) [
       | inl p ↦
           let le = s.most in let less = p.polls_less in let same = p.same_again in
           record {
@@ -248,7 +226,7 @@ module _ (N : ℕ) (some_retries : 1 ≤ N) (up : Bool) where
                 x y few on AwaitingEstablishment
                 (attempt y.end + gone N y.end + polls N after_t200.user.end
                 + again N after_t200.user.end) (n - 1) s.network p
-                (omega (arith, le, less, same))) k));
+                (omega (arith, le, less, same)))));
           }
       | inr a ↦
           let le = s.most in let more = a.polls_some in
@@ -258,31 +236,27 @@ module _ (N : ℕ) (some_retries : 1 ≤ N) (up : Bool) where
           record {
             some = omega (arith, le, more);
             arriving =
-                inr (inl (asks_5 (asks_anew n x y few on (n - 1) a (omega (arith, le, more, all)))
-                (λ is. none_releases n
-                x y few on a
-                (λ in_6. let impossible =
-                other_state _ AwaitingEstablishment AwaitingRelease s.network
-                in_6 in cc) (λ _. k is))));
+                inr (inl (asks_5
+                (asks_anew n x y few on (n - 1) a (omega (arith, le, more, all)))));
           }
     ]
 
   -- T203 of an open end that has found nothing yet
-  pub alone4_t203 : (n : ℕ) (x y : Station) → Alone4 N n (at x y [] []) → x.end.parameters.n200 ≤ N
+  pub alone4_t203 : (n : ℕ) (x y : Station) → Alone4 N n (at x y [] [])
       → x.end.state ≡ MultipleFrameEstablished → x.end.t203 ≡ true
-      → ComesOn N up n (by_user Expire203 x y [] [])
-  alone4_t203 n x y s few is on =
+      → ComesOn N n (by_user Expire203 x y [] [])
+  alone4_t203 n x y s is on =
       let p = polls_by_t203 x is on in
       let then = by_user Expire203 x y [] [] in
       let le = s.most in
-      let finds_is : finds N x.end ≡ 2 * N + 5 =
-      ap (λ st. finds_in N st (x.end.parameters.n200 - x.end.rc)) is in
+      let finds_is : finds x.end ≡ 2 * x.end.parameters.n200 + 5 =
+      ap (λ st. finds_in st x.end.parameters.n200 (x.end.parameters.n200 - x.end.rc)) is in
       let left : then.user.end.parameters.n200 - then.user.end.rc ≡ x.end.parameters.n200 - 0 =
       ap (λ q. q.n200 - then.user.end.rc) p.polled.parameters
       ∙ ap (λ m. x.end.parameters.n200 - m) p.polled.rc_is in
-      let finds_then : finds N then.user.end ≡ 2 * (x.end.parameters.n200 - 0) + 3 =
-      ap (λ st. finds_in N st (then.user.end.parameters.n200 - then.user.end.rc))
-      p.polled.in_8 ∙ ap (λ l. 2 * l + 3) left in
+      let finds_then : finds then.user.end ≡ 2 * (x.end.parameters.n200 - 0) + 3 =
+      ap (λ st. finds_in st then.user.end.parameters.n200
+      (then.user.end.parameters.n200 - then.user.end.rc)) p.polled.in_8 ∙ ap (λ l. 2 * l + 3) left in
       let len = ap (λ fs. length fs) p.outgoing in
       let same = p.polled.unsent_is in
       record {
@@ -292,7 +266,7 @@ module _ (N : ℕ) (some_retries : 1 ≤ N) (up : Bool) where
           network = s.network;
           to_user = p.incoming;
           ignored = subst AreIgnored (sym p.outgoing) (p.ignored, tt);
-          most = omega (arith, le, finds_is, finds_then, len, same, few);
+          most = omega (arith, le, finds_is, finds_then, len, same);
         })));
       }
 
@@ -301,7 +275,7 @@ module _ (N : ℕ) (some_retries : 1 ≤ N) (up : Bool) where
   peer_in_4 : (n m : ℕ) (x y : Station) (e : End) → is_7_or_8 x.end.state ≡ true
       → e.state ≡ TeiAssigned → unsent e ≡ 0
       → Sees (left_by (seeing y [] []) (acts Whole side.User Expire200 (seeing y [] []))) e [] []
-      → 2 * unsent x.end + finds N x.end ≤ m → Alone4 N m (by_network Expire200 x y [] [])
+      → 2 * unsent x.end + finds x.end ≤ m → Alone4 N m (by_network Expire200 x y [] [])
   peer_in_4 n m x y e opened is none seen most = record {
     open_state = opened;
     network = ap state_of seen.end ∙ is;
@@ -313,14 +287,14 @@ module _ (N : ℕ) (some_retries : 1 ≤ N) (up : Bool) where
   }
 
   pub alone5_peer : (n : ℕ) (x y : Station) → Alone5 N n (at x y [] [])
-      → (up ≡ true → y.end.release_pending ≡ false) → y.end.t200 ≡ true
-      → ComesOn N up n (by_network Expire200 x y [] [])
-  alone5_peer n x y s k on = by_tries (tries y.end) refl
+      → x.end.parameters.n200 ≤ N → y.end.t200 ≡ true
+      → ComesOn N n (by_network Expire200 x y [] [])
+  alone5_peer n x y s few on = by_tries (tries y.end) refl
     where
       is : y.end.state ≡ AwaitingEstablishment
       is = s.network
 
-      by_tries : (b : Bool) → tries y.end ≡ b → ComesOn N up n (by_network Expire200 x y [] [])
+      by_tries : (b : Bool) → tries y.end ≡ b → ComesOn N n (by_network Expire200 x y [] [])
       by_tries true more =
           let v =
           seen_after_t200 y (asked_again y.end is) (sabme ∷ []) on
@@ -342,16 +316,6 @@ module _ (N : ℕ) (some_retries : 1 ≤ N) (up : Bool) where
                   to_user = v.incoming;
                   to_network = v.outgoing;
                   most = omega (arith, le, three, bit, same, none);
-                })
-                (λ up_is. record {
-                  user = ap (λ (e : End). e.release_pending) v.end ∙ k up_is;
-                  not_6 =
-                      λ in_6. let impossible : is_7_or_8 x.end.state ≡ false =
-                      ap is_7_or_8 in_6 in let open_state = s.open_state in cc;
-                  network =
-                      λ in_5. absurd
-                      (let impossible : is_7_or_8 x.end.state ≡ false = ap is_7_or_8 in_5 in
-                      let open_state = s.open_state in cc);
                 })));
           }
       by_tries false last =
@@ -359,7 +323,7 @@ module _ (N : ℕ) (some_retries : 1 ≤ N) (up : Bool) where
           let le = s.most in
           let one = attempt_is AwaitingEstablishment false y.end is last in
           let left = gone_is false y.end last in
-          let found = finds_below x.end s.open_state in
+          let found = finds_below x.end few s.open_state in
           record {
             some = omega (arith, le, one);
             arriving =
@@ -368,15 +332,15 @@ module _ (N : ℕ) (some_retries : 1 ≤ N) (up : Bool) where
                 (omega (arith, le, one, left, found)))));
           }
 
-  pub alone6_peer : (n : ℕ) (x y : Station) → Alone6 N n (at x y [] []) → up ≡ false
+  pub alone6_peer : (n : ℕ) (x y : Station) → Alone6 N n (at x y [] [])
       → length y.end.given ≡ y.end.next → y.end.t200 ≡ true
-      → ComesOn N up n (by_network Expire200 x y [] [])
-  alone6_peer n x y s k empty on = by_tries (tries y.end) refl
+      → ComesOn N n (by_network Expire200 x y [] [])
+  alone6_peer n x y s empty on = by_tries (tries y.end) refl
     where
       is : y.end.state ≡ AwaitingRelease
       is = s.network
 
-      by_tries : (b : Bool) → tries y.end ≡ b → ComesOn N up n (by_network Expire200 x y [] [])
+      by_tries : (b : Bool) → tries y.end ≡ b → ComesOn N n (by_network Expire200 x y [] [])
       by_tries true more =
           let v =
           seen_after_t200 y (retried y.end is) (disc ∷ []) on
@@ -394,7 +358,7 @@ module _ (N : ℕ) (some_retries : 1 ≤ N) (up : Bool) where
                   ignored = subst AreIgnored (sym v.incoming) tt;
                   to_network = v.outgoing;
                   most = omega (arith, le, three, none, len);
-                }) k));
+                })));
           }
       by_tries false last =
           let v = seen_after_t200 y (released y.end is) [] on (give_up_in_6 y.end is on last) in
@@ -438,19 +402,18 @@ module _ (N : ℕ) (some_retries : 1 ≤ N) (up : Bool) where
           let same = ap unsent seen.end in omega (arith, most, len, same);
     }
 
-    pub alone4_ignores : Alone4 N n (at x y [] (frame ∷ rest)) → ComesOn N up n after_ignored
+    pub alone4_ignores : Alone4 N n (at x y [] (frame ∷ rest)) → ComesOn N n after_ignored
     alone4_ignores s =
         let seen = ignored_so (ap is_7_or_8 s.network) s.ignored.0 in
         let le = s.most in
         record {
           some = omega (arith, le);
           arriving =
-              inr (inl (alone_4 (still TeiAssigned _ (finds N x.end) s seen (omega (arith, le)))));
+              inr (inl (alone_4 (still TeiAssigned _ (finds x.end) s seen (omega (arith, le)))));
         }
 
-    pub alone6_ignores : Alone6 N n (at x y [] (frame ∷ rest)) → up ≡ false
-        → ComesOn N up n after_ignored
-    alone6_ignores s k =
+    pub alone6_ignores : Alone6 N n (at x y [] (frame ∷ rest)) → ComesOn N n after_ignored
+    alone6_ignores s =
         let seen = ignored_so (ap is_7_or_8 s.network) s.ignored.0 in
         let le = s.most in
         let same : attempt after_ignored.network.end ≡ attempt y.end = ap attempt seen.end in
@@ -458,13 +421,12 @@ module _ (N : ℕ) (some_retries : 1 ≤ N) (up : Bool) where
           some = omega (arith, le);
           arriving =
               inr (inl (alone_6 (still AwaitingRelease _
-              (attempt after_ignored.network.end + finds N x.end) s seen
-              (omega (arith, le, same))) k));
+              (attempt after_ignored.network.end + finds x.end) s seen
+              (omega (arith, le, same)))));
         }
 
-    pub alone5_ignores : Alone5 N n (at x y [] (frame ∷ rest))
-        → (up ≡ true → y.end.release_pending ≡ false) → ComesOn N up n after_ignored
-    alone5_ignores s k =
+    pub alone5_ignores : Alone5 N n (at x y [] (frame ∷ rest)) → ComesOn N n after_ignored
+    alone5_ignores s =
         let seen = ignored_so (ap is_7_or_8 s.network) s.ignored.0 in
         let le = s.most in
         let same : attempt after_ignored.network.end ≡ attempt y.end = ap attempt seen.end in
@@ -475,6 +437,5 @@ module _ (N : ℕ) (some_retries : 1 ≤ N) (up : Bool) where
               inr (inl (alone_5 (still AwaitingEstablishment _
               (attempt after_ignored.network.end + gone N after_ignored.network.end
               + polls N x.end + again N x.end) s seen
-              (omega (arith, le, same, same_gone)))
-              (λ is. ap (λ (e : End). e.release_pending) seen.end ∙ k is)));
+              (omega (arith, le, same, same_gone)))));
         }

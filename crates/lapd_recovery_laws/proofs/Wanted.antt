@@ -1,5 +1,5 @@
 -- A link that one end wants and neither releases comes up, from every world that a run leads to.
-use Rattle.std.proofs.Common.{◌≡◌, ◌⊎◌, inl, inr, ℕ, ◌+◌, ◌≤◌, true, false, List, [], ◌∷◌, map, refl, sym, ap, subst, ◌∙◌, arith}
+use Rattle.std.proofs.Common.{◌≡◌, ◌⊎◌, inl, inr, ℕ, ◌+◌, ◌≤◌, false, List, [], ◌∷◌, map, refl, sym, ap, subst, ◌∙◌, arith}
 use Rattle.lapd_frame.specs.declared.Side.{Side}
 use Rattle.lapd_frame.specs.declared.Control.{Control}
 use Rattle.lapd_frame.specs.declared.Control.TheVariants.{I, Rr, Rnr, Rej}
@@ -16,15 +16,13 @@ use Rattle.lapd_pair_laws.specs.Move.{PairEvent, Deliver, Lose, Expire200, Expir
 use Rattle.lapd_pair_laws.specs.Tagged.{tag_flight, tag_world}
 use Rattle.lapd_pair_laws.specs.World.{World, new_world, run}
 use Rattle.lapd_pair_laws.proofs.Consistency.{run_consistent}
-use Rattle.lapd_pair_laws.proofs.Reached.{reached_tags}
 use Rattle.lapd_pair_laws.proofs.Whole.{each_run_preserves}
-use Rattle.lapd_recovery_laws.specs.AfterOutage.{IsAfterOutage, IsHeldUp, StaysUp}
+use Rattle.lapd_recovery_laws.specs.WantedLine.{StaysUp, is_dm, NoneRefused, IsWanted}
 use Rattle.lapd_recovery_laws.specs.Agreed.{AreLevel, AreReleased, AreAgreed}
 use Rattle.lapd_recovery_laws.specs.EarlyTimers.{IsLineMove, AreLineMoves}
 use Rattle.lapd_recovery_laws.specs.EveryWorld.{IsFreeWorld}
 use Rattle.lapd_recovery_laws.specs.Losses.{is_loss, one_if, losses}
 use Rattle.lapd_recovery_laws.specs.Own.{Rests}
-use Rattle.lapd_recovery_laws.specs.WantedLine.{IsWanting, is_dm, NoneRefused, IsWanted}
 use Rattle.lapd_recovery_laws.proofs.AfterOutage.{facts_after, wanting_by_tags}
 use Rattle.lapd_recovery_laws.proofs.CountedMoves.{after}
 use Rattle.lapd_recovery_laws.proofs.DespiteTimers.{despite_timers, line_moves_by_tags}
@@ -60,7 +58,7 @@ module _ (N : ℕ) where
   first s (Lose i) w moves f k rest one own none = absurd (omega (arith, none))
   first s event w moves f k rest one own none = let impossible = one.of_line in cc
 
-  stays_wanted : (moves : List Move) (w : World) → Facts N w → IsUndisturbed w
+  pub stays_wanted : (moves : List Move) (w : World) → Facts N w → IsUndisturbed w
       → AreLineMoves Whole moves w → losses moves ≡ 0 → IsUndisturbed (run Whole moves w)
   stays_wanted [] w f k own none = k
   stays_wanted (move ∷ moves) w f k own none =
@@ -79,7 +77,7 @@ wants_not x outgoing incoming is (inr asks) =
     let impossible : TeiAssigned ≡ AwaitingEstablishment = sym is ∙ asks.0 in cc
 
 -- ends that agree, and one of them wants the link
-wanted_level : (w : World) → IsUndisturbed w → AreAgreed w → AreLevel w.user.end w.network.end
+pub wanted_level : (w : World) → IsUndisturbed w → AreAgreed w → AreLevel w.user.end w.network.end
 wanted_level w k a = by_ends a.ends k.either
   where
     by_ends : AreReleased w.user.end w.network.end ⊎ AreLevel w.user.end w.network.end
@@ -124,75 +122,26 @@ wanted_by_tags w k = record {
   to_network = refused_by_tags w.to_network k.to_network;
 }
 
-module _ (N : ℕ) (some : 1 ≤ N) (user network : Parameters) (user_small : user.k ≤ 127)
-    (network_small : network.k ≤ 127) (user_some : 1 ≤ user.k) (network_some : 1 ≤ network.k)
-    (moves : List Move) where
-  abbrev reached : World
-  reached = run Whole moves (new_world user network)
-
-  holds : IsInvariant reached
-  holds = runs.holds user network user_small network_small user_some network_some moves
-
-  preserved : IsConsistentWorld Whole reached
-  preserved = runs.preserved user network user_small network_small user_some network_some moves
-
-  up_whole : IsFreeWorld N reached → IsWanted reached → StaysUp Whole reached
-  up_whole a k moves_on own none rests =
-      let facts =
-      runs.facts user network user_small network_small user_some network_some moves N
-      a.user_retries a.network_retries in
-      let wanted =
-      undisturbed reached k (no_disc_after_run user network user_small network_small user_some
-      network_some moves k.ends.mine.not_releasing k.ends.its.not_releasing) in
-      wanted_level (run Whole moves_on reached)
-      (stays_wanted N moves_on reached facts wanted own none)
-      ((despite_timers N some reached facts preserved a.user_free a.network_free).agreed moves_on own
-      rests)
-
-  comes_up_by : (r : Reading) → IsFreeWorld N (run r moves (new_world user network))
-      → IsWanted (run r moves (new_world user network))
-      → StaysUp r (run r moves (new_world user network))
-  comes_up_by Whole a k = up_whole a k
-  comes_up_by Tagged a k =
-      let same : run Tagged moves (new_world user network) ≡ tag_world reached =
-      reached_tags user network user_small network_small moves in
-      subst (λ w. StaysUp Tagged w) (sym same)
-      (stays_up_on_tags reached holds preserved
-      (up_whole (free_world_by_tags N reached (subst (λ w. IsFreeWorld N w) same a))
-      (wanted_by_tags reached (subst IsWanted same k))))
-
 pub every_wanted_line_comes_up : (r : Reading) (n200 : ℕ) → 1 ≤ n200 → (user network : Parameters)
     → user.k ≤ 127 → network.k ≤ 127 → 1 ≤ user.k → 1 ≤ network.k → (moves : List Move)
     → IsFreeWorld n200 (run r moves (new_world user network))
     → IsWanted (run r moves (new_world user network))
     → StaysUp r (run r moves (new_world user network))
 every_wanted_line_comes_up r n200 some user network u n us ns moves a k =
-    comes_up_by n200 some user network u n us ns moves r a k
-
--- a link that one end holds up after an outage is wanted
-held_is_wanted : (N : ℕ) (w : World) → IsAfterOutage N w → IsHeldUp w → IsWanted w
-held_is_wanted N w a h = record {
-  ends = record { mine = h.user; its = h.network; either = by_either h.open_state };
-  to_user = subst NoneRefused (sym a.to_user) tt;
-  to_network = subst NoneRefused (sym a.to_network) tt;
-}
+    runs.by_readings user network u n us ns moves (λ w. IsFreeWorld n200 w × IsWanted w)
+    (λ r w. StaysUp r w) (λ w p. (free_world_by_tags n200 w p.0, wanted_by_tags w p.1))
+    stays_up_on_tags (λ p. up_whole p.0 p.1) r (a, k)
   where
-    by_either : (is_7_or_8 w.user.end.state ≡ true) ⊎ (is_7_or_8 w.network.end.state ≡ true)
-        → IsWanting w.user.end ⊎ IsWanting w.network.end
-    by_either (inl o) = inl (inl o)
-    by_either (inr o) = inr (inl o)
+    reached : World
+    reached = run Whole moves (new_world user network)
 
-pub every_held_line_stays_up : (r : Reading) (n200 : ℕ) → 1 ≤ n200 → (user network : Parameters)
-    → user.k ≤ 127 → network.k ≤ 127 → 1 ≤ user.k → 1 ≤ network.k → (moves : List Move)
-    → IsAfterOutage n200 (run r moves (new_world user network))
-    → IsHeldUp (run r moves (new_world user network))
-    → StaysUp r (run r moves (new_world user network))
-every_held_line_stays_up r n200 some user network u n us ns moves a h =
-    every_wanted_line_comes_up r n200 some user network u n us ns moves
-    (record {
-      user_free = a.user_free;
-      network_free = a.network_free;
-      user_retries = a.user_retries;
-      network_retries = a.network_retries;
-    })
-    (held_is_wanted n200 (run r moves (new_world user network)) a h)
+    up_whole : IsFreeWorld n200 reached → IsWanted reached → StaysUp Whole reached
+    up_whole a k moves_on own none rests =
+        let facts = runs.facts user network u n us ns moves n200 a.user_retries a.network_retries in
+        let wanted =
+        undisturbed reached k (no_disc_after_run user network u n us ns moves
+        k.ends.mine.not_releasing k.ends.its.not_releasing) in
+        wanted_level (run Whole moves_on reached)
+        (stays_wanted n200 moves_on reached facts wanted own none)
+        ((despite_timers n200 some reached facts (runs.preserved user network u n us ns moves)
+        a.user_free a.network_free).agreed moves_on own rests)

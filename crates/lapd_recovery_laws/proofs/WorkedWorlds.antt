@@ -6,13 +6,12 @@ use Rattle.lapd_pair_laws.specs.World.{run}
 use Rattle.lapd_pair_laws.specs.Schedule.{establishing}
 use Rattle.lapd_pair_laws.specs.Settle.{next_move}
 use Rattle.lapd_pair_laws.specs.Worked.{new_pair, sabme_lost, busy}
-use Rattle.lapd_recovery_laws.specs.AfterOutage.{IsAfterOutage, IsHeldUp}
 use Rattle.lapd_recovery_laws.specs.EveryWorld.{IsFreeWorld}
 use Rattle.lapd_recovery_laws.specs.FewLosses.{OutlastLosses}
 use Rattle.lapd_recovery_laws.specs.KeptAgreement.{earlies_out_of_step}
 use Rattle.lapd_recovery_laws.specs.Losses.{AreOwnOrLosses}
 use Rattle.lapd_recovery_laws.specs.WantedLine.{AreWanting, IsWanted}
-use Rattle.lapd_recovery_laws.specs.Recovered.{outcome_of, outcome_of_deliveries, outcome_from, first_of_three_lost, poll_meets_sabme, both_sabmes_lost, network_restarts, restarts_with_one_sent, release_waits, sabmes_lost, disc_lost, release_unheard, disc_meets_sabme, dm_sent, longest, both_in_7, both_in_4, held_up, IsBusy, message_lost, three_polls_lost, two_polls_lost, outcome_despite, outcome_of_few, polls_cross, polled_on, agreed_after, least_pair, all_admitted, outcome_of_least, eight_wait, t200_beside_frames, too_many_t200, network_sabme_lost, t203_before_t200, too_many_t203}
+use Rattle.lapd_recovery_laws.specs.Recovered.{outcome_of, outcome_of_deliveries, outcome_of, first_of_three_lost, poll_meets_sabme, both_sabmes_lost, network_restarts, restarts_with_one_sent, release_waits, sabmes_lost, disc_lost, release_unheard, disc_meets_sabme, dm_sent, longest, both_in_7, both_in_4, held_up, IsBusy, message_lost, three_polls_lost, two_polls_lost, outcome_despite, outcome_of_few, polls_cross, polled_on, agreed_after, least_pair, all_admitted, outcome_of_least, eight_wait, t200_beside_frames, too_many_t200, network_sabme_lost, t203_before_t200, too_many_t203}
 use Rattle.lapd_pair_laws.proofs.ComputedRun.{computed_run}
 
 pub restart_back : (r : Reading) → outcome_of r (run r network_restarts (new_pair 1 Enquiry)) ≡ both_in_7 11 0 0
@@ -75,12 +74,12 @@ unfolding computed_run
 first_lost_by_last Whole = refl
 first_lost_by_last Tagged = refl
 
-pub poll_met : (r : Reading) → outcome_from r (run r poll_meets_sabme (new_pair 1 Enquiry)) ≡ both_in_7 5 1 0
+pub poll_met : (r : Reading) → outcome_of r (run r poll_meets_sabme (new_pair 1 Enquiry)) ≡ both_in_7 5 1 0
 unfolding computed_run
 poll_met Whole = refl
 poll_met Tagged = refl
 
-pub poll_met_by_last : (r : Reading) → outcome_from r (run r poll_meets_sabme (new_pair 1 LastMessage)) ≡ both_in_7 5 1 0
+pub poll_met_by_last : (r : Reading) → outcome_of r (run r poll_meets_sabme (new_pair 1 LastMessage)) ≡ both_in_7 5 1 0
 unfolding computed_run
 poll_met_by_last Whole = refl
 poll_met_by_last Tagged = refl
@@ -105,22 +104,22 @@ unfolding computed_run
 network_is_busy Whole user network = let free = network refl in cc
 network_is_busy Tagged user network = let free = network refl in cc
 
-pub restart_is_held : (r : Reading) → IsAfterOutage 3 (run r network_restarts (new_pair 1 Enquiry))
-    × IsHeldUp (run r network_restarts (new_pair 1 Enquiry))
+pub restart_is_wanted : (r : Reading) → IsFreeWorld 3 (run r network_restarts (new_pair 1 Enquiry))
+    × IsWanted (run r network_restarts (new_pair 1 Enquiry))
 unfolding computed_run
-restart_is_held Whole = (record { to_user = refl; to_network = refl; user_free = λ _. refl; network_free = λ _. refl; user_retries = omega arith; network_retries = omega arith }, record { user = record { not_releasing = λ is. cc; none_pending = λ is. cc }; network = record { not_releasing = λ is. cc; none_pending = λ is. cc }; open_state = inl refl })
-restart_is_held Tagged = (record { to_user = refl; to_network = refl; user_free = λ _. refl; network_free = λ _. refl; user_retries = omega arith; network_retries = omega arith }, record { user = record { not_releasing = λ is. cc; none_pending = λ is. cc }; network = record { not_releasing = λ is. cc; none_pending = λ is. cc }; open_state = inl refl })
+restart_is_wanted Whole = (record { user_free = λ _. refl; network_free = λ _. refl; user_retries = omega arith; network_retries = omega arith }, record { ends = record { mine = record { not_releasing = λ is. cc; none_pending = λ is. cc }; its = record { not_releasing = λ is. cc; none_pending = λ is. cc }; either = inl (inl refl) }; to_user = tt; to_network = tt })
+restart_is_wanted Tagged = (record { user_free = λ _. refl; network_free = λ _. refl; user_retries = omega arith; network_retries = omega arith }, record { ends = record { mine = record { not_releasing = λ is. cc; none_pending = λ is. cc }; its = record { not_releasing = λ is. cc; none_pending = λ is. cc }; either = inl (inl refl) }; to_user = tt; to_network = tt })
 
 pub sabme_back : (r : Reading) → outcome_of r (run r sabme_lost (new_pair 1 Enquiry)) ≡ both_in_7 3 0 0
 unfolding computed_run
 sabme_back Whole = refl
 sabme_back Tagged = refl
 
-pub sabme_is_wanted : (r : Reading) → IsAfterOutage 3 (run r sabme_lost (new_pair 1 Enquiry))
+pub sabme_is_wanted : (r : Reading) → IsFreeWorld 3 (run r sabme_lost (new_pair 1 Enquiry))
     × IsWanted (run r sabme_lost (new_pair 1 Enquiry))
 unfolding computed_run
-sabme_is_wanted Whole = (record { to_user = refl; to_network = refl; user_free = λ o. cc; network_free = λ o. cc; user_retries = omega arith; network_retries = omega arith }, record { ends = record { mine = record { not_releasing = λ is. cc; none_pending = λ is. refl }; its = record { not_releasing = λ is. cc; none_pending = λ is. cc }; either = inl (inr (refl, omega arith)) }; to_user = tt; to_network = tt })
-sabme_is_wanted Tagged = (record { to_user = refl; to_network = refl; user_free = λ o. cc; network_free = λ o. cc; user_retries = omega arith; network_retries = omega arith }, record { ends = record { mine = record { not_releasing = λ is. cc; none_pending = λ is. refl }; its = record { not_releasing = λ is. cc; none_pending = λ is. cc }; either = inl (inr (refl, omega arith)) }; to_user = tt; to_network = tt })
+sabme_is_wanted Whole = (record { user_free = λ o. cc; network_free = λ o. cc; user_retries = omega arith; network_retries = omega arith }, record { ends = record { mine = record { not_releasing = λ is. cc; none_pending = λ is. refl }; its = record { not_releasing = λ is. cc; none_pending = λ is. cc }; either = inl (inr (refl, omega arith)) }; to_user = tt; to_network = tt })
+sabme_is_wanted Tagged = (record { user_free = λ o. cc; network_free = λ o. cc; user_retries = omega arith; network_retries = omega arith }, record { ends = record { mine = record { not_releasing = λ is. cc; none_pending = λ is. refl }; its = record { not_releasing = λ is. cc; none_pending = λ is. cc }; either = inl (inr (refl, omega arith)) }; to_user = tt; to_network = tt })
 
 pub last_try_gone : (r : Reading) → outcome_of r (run r sabmes_lost (new_pair 1 Enquiry)) ≡ both_in_4 1
 unfolding computed_run
@@ -142,7 +141,7 @@ unfolding computed_run
 release_goes_on Whole = refl
 release_goes_on Tagged = refl
 
-pub dm_gone : (r : Reading) → AreWanting (run r dm_sent (new_pair 1 Enquiry)).user.end (run r dm_sent (new_pair 1 Enquiry)).network.end × (outcome_from r (run r dm_sent (new_pair 1 Enquiry)) ≡ both_in_4 1)
+pub dm_gone : (r : Reading) → AreWanting (run r dm_sent (new_pair 1 Enquiry)).user.end (run r dm_sent (new_pair 1 Enquiry)).network.end × (outcome_of r (run r dm_sent (new_pair 1 Enquiry)) ≡ both_in_4 1)
 unfolding computed_run
 dm_gone Whole = (record { mine = record { not_releasing = λ is. cc; none_pending = λ is. cc }; its = record { not_releasing = λ is. cc; none_pending = λ is. refl }; either = inr (inr (refl, omega arith)) }, refl)
 dm_gone Tagged = (record { mine = record { not_releasing = λ is. cc; none_pending = λ is. cc }; its = record { not_releasing = λ is. cc; none_pending = λ is. refl }; either = inr (inr (refl, omega arith)) }, refl)

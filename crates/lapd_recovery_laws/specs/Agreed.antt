@@ -1,11 +1,8 @@
 -- The worlds that the line's own moves lead to: both ends agree.
-use Rattle.std.specs.Prelude.{◌≡◌, ◌⊎◌, ℕ, ◌≤◌, false, List, [], length}
-use Rattle.lapd_mod128.specs.Counting.{Reading}
+use Rattle.std.specs.Prelude.{◌≡◌, ◌⊎◌, false, []}
 use Rattle.lapd_link_definition.specs.declared.state.State.TheVariants.{TeiAssigned, MultipleFrameEstablished}
 use Rattle.lapd_link_definition.specs.End.{End}
-use Rattle.lapd_pair_laws.specs.Move.{Move}
-use Rattle.lapd_pair_laws.specs.World.{World, run, left}
-use Rattle.lapd_recovery_laws.specs.Own.{AreOwn, Rests, most_own_moves}
+use Rattle.lapd_pair_laws.specs.World.{World, left}
 
 -- in state 7, and the peer received and acknowledged each message sent
 pub record IsLevel (x y : End) : Type 0 where
@@ -32,10 +29,3 @@ pub record AreAgreed (w : World) : Type 0 where
   pub user_stopped : w.user.end.t200 ≡ false
   pub network_stopped : w.network.end.t200 ≡ false
   pub ends : AreReleased w.user.end w.network.end ⊎ AreLevel w.user.end w.network.end
-
--- From this world the line's own moves, in any order, are few, and when none is possible any more
--- the ends agree.
-pub record ComesBack (r : Reading) (n200 : ℕ) (w : World) : Type 0 where
-  pub few : (moves : List Move) → AreOwn r moves w → length moves ≤ most_own_moves n200 w
-  pub agreed : (moves : List Move) → AreOwn r moves w → Rests r (run r moves w)
-      → AreAgreed (run r moves w)

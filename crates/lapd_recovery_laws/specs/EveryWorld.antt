@@ -14,8 +14,8 @@ pub record IsFreeWorld (n200 : ℕ) (w : World) : Type 0 where
   pub user_retries : w.user.end.parameters.n200 ≤ n200
   pub network_retries : w.network.end.parameters.n200 ≤ n200
 
--- The number of own moves that suffices: those of the frames in transit, and then those after an
--- outage. The argument is N200, the greater one of both ends.
+-- The number of own moves that suffices: those of the frames in transit, and then those of an empty
+-- line. The argument is N200, the greater one of both ends.
 abbrev pub most_moves_from : ℕ → World → ℕ
 most_moves_from n200 w = 2 * frames w + 3 * left w + 6 * n200 + 15
 

@@ -5,12 +5,14 @@ use Rattle.lapd_mod128.specs.Counting.{Reading}
 use Rattle.lapd_link_definition.specs.declared.state.State.TheVariants.{TimerRecovery}
 use Rattle.lapd_link_definition.specs.EndOfStep.{is_7_or_8}
 use Rattle.lapd_link_definition.specs.End.{End}
+use Rattle.lapd_pair_laws.specs.Drained.{IsServed}
 use Rattle.lapd_pair_laws.specs.Move.{PairEvent, Expire200, Expire203, Move}
+use Rattle.lapd_pair_laws.specs.Safe.{AreSafe}
 use Rattle.lapd_pair_laws.specs.World.{World, run, left}
+use Rattle.lapd_recovery_laws.specs.Agreed.{AreLevel, AreAgreed}
 use Rattle.lapd_recovery_laws.specs.Deliveries.{frames, most_deliveries}
 use Rattle.lapd_recovery_laws.specs.EarlyTimers.{AreLineMoves}
 use Rattle.lapd_recovery_laws.specs.Losses.{AreOwnOrLosses, one_if, losses}
-use Rattle.lapd_recovery_laws.specs.OpenLine.{IsUp}
 use Rattle.lapd_recovery_laws.specs.Own.{Rests, IsFree}
 
 -- in state 7 or 8, not own receiver busy, and with more retransmissions left than frames are lost
@@ -30,6 +32,15 @@ pub record StaysOpen (w now : World) : Type 0 where
   pub network : is_7_or_8 now.network.end.state ≡ true
   pub user_dropped : now.user.history.dropped ≡ w.user.history.dropped
   pub network_dropped : now.network.history.dropped ≡ w.network.history.dropped
+
+-- The ends agree, both in state 7. Both sides are served: no message was dropped, and each message
+-- that was not dropped before is acknowledged. All that is acknowledged was received.
+pub record IsUp (before after : World) : Type 0 where
+  pub agreed : AreAgreed after
+  pub level : AreLevel after.user.end after.network.end
+  pub user : IsServed before.user after.user
+  pub network : IsServed before.network after.network
+  pub safe : AreSafe after
 
 -- The number of own moves and losses that suffices: twice the frames in transit, three for each
 -- message left and 12, and for each lost frame what brings the line back from any world behind it.

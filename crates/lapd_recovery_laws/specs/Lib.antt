@@ -1,4 +1,3 @@
-pub mod AfterOutage
 pub mod Agreed
 pub mod Deliveries
 pub mod EarlyTimers
@@ -9,7 +8,6 @@ pub mod InTime
 pub mod KeptAgreement
 pub mod LoneLine
 pub mod Losses
-pub mod OpenLine
 pub mod Own
 pub mod QuickRestart
 pub mod Recovered

@@ -1,13 +1,13 @@
 -- The line's own moves: frames are delivered; while the line is empty, T200 expires; and if T200
 -- does not run and one end is in state 7 and the other is not, T203 expires.
-use Rattle.std.specs.Prelude.{◌≡◌, ℕ, zero, suc, ◌+◌, ◌*◌, ◌&&◌, ◌||◌, not, if◌then◌else◌, Bool, true, false, List, [], ◌∷◌, Option, Some, None, is_ok}
+use Rattle.std.specs.Prelude.{◌≡◌, ℕ, zero, suc, ◌&&◌, ◌||◌, not, if◌then◌else◌, Bool, true, false, List, [], ◌∷◌, Option, Some, None, is_ok}
 use Rattle.lapd_frame.specs.declared.Side.TheVariants.{User, Network}
 use Rattle.lapd_mod128.specs.Counting.{Reading}
 use Rattle.lapd_link_definition.specs.EndOfStep.{is_established, is_7_or_8}
 use Rattle.lapd_link_definition.specs.End.{End}
 use Rattle.lapd_pair_laws.specs.Line.{Flight}
 use Rattle.lapd_pair_laws.specs.Move.{PairEvent, Deliver, Expire200, Expire203, Move}
-use Rattle.lapd_pair_laws.specs.World.{World, happens, world_after, left}
+use Rattle.lapd_pair_laws.specs.World.{World, happens, world_after}
 
 -- one end is in state 7 and the other is not
 abbrev pub are_apart : World → Bool
@@ -46,11 +46,6 @@ Rests r w = (move : Move) → IsOwn r move w → ⊥
 -- an end in state 7 or 8 is not own receiver busy (Q.921 5.6.6)
 abbrev pub IsFree : End → Type 0
 IsFree e = is_7_or_8 e.state ≡ true → e.window.own_busy ≡ false
-
--- The number of own moves that suffices if the line is empty at the start. The argument is N200,
--- the greater one of both ends.
-abbrev pub most_own_moves : ℕ → World → ℕ
-most_own_moves n200 w = 3 * left w + 6 * n200 + 11
 
 -- ---- The own moves in one order.
 

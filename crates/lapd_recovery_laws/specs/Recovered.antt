@@ -13,10 +13,10 @@ use Rattle.lapd_recovery_laws.specs.Deliveries.{most_deliveries}
 use Rattle.lapd_recovery_laws.specs.EveryWorld.{most_moves_from}
 use Rattle.lapd_recovery_laws.specs.FewLosses.{most_open_moves}
 use Rattle.lapd_recovery_laws.specs.Losses.{losses, most_moves_despite}
-use Rattle.lapd_recovery_laws.specs.Own.{IsFree, first_own, most_own_moves, then_on, recovering, tried}
+use Rattle.lapd_recovery_laws.specs.Own.{IsFree, first_own, then_on, recovering, tried}
 
 -- The result of the own moves. `moves`: how many were made; `few`: whether they are at most
--- `most_own_moves`; `rest`: whether no own move is possible; `left`: how many messages are left;
+-- `most_moves_from`; `rest`: whether no own move is possible; `left`: how many messages are left;
 -- `received`: how many the network received; `dropped`: how many of the user's are dropped; then
 -- both states.
 pub record RecoveryOutcome : Type 0 where
@@ -42,7 +42,7 @@ looked_at r moves most w = record {
 }
 
 abbrev pub after_moves : Reading → List Move → World → RecoveryOutcome
-after_moves r moves w = looked_at r (length moves) (most_own_moves 3 w) (run r moves w)
+after_moves r moves w = looked_at r (length moves) (most_moves_from 3 w) (run r moves w)
 
 -- at most 40 moves are made
 abbrev pub outcome_of : Reading → World → RecoveryOutcome
@@ -127,18 +127,11 @@ delivering r (suc n) w = then_on
     (first_own r (of_network Deliver ∷ of_user Deliver ∷ []) w)
     (λ move. delivering r n (world_after w (happens r move w)))
 
--- after deliveries alone, and after own moves from a world with frames in transit
 abbrev pub after_deliveries : Reading → List Move → World → RecoveryOutcome
 after_deliveries r moves w = looked_at r (length moves) (most_deliveries w) (run r moves w)
 
 abbrev pub outcome_of_deliveries : Reading → World → RecoveryOutcome
 outcome_of_deliveries r w = after_deliveries r (delivering r 40 w) w
-
-abbrev pub after_all : Reading → List Move → World → RecoveryOutcome
-after_all r moves w = looked_at r (length moves) (most_moves_from 3 w) (run r moves w)
-
-abbrev pub outcome_from : Reading → World → RecoveryOutcome
-outcome_from r w = after_all r (recovering r 40 w) w
 
 -- three messages are in transit, and the first is lost
 abbrev pub first_of_three_lost : List Move

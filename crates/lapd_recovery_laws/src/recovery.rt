@@ -9,8 +9,6 @@ ghost use Rattle.lapd_pair_laws.specs.Schedule.{establishing};
 ghost use Rattle.lapd_pair_laws.specs.Settle.{next_move};
 ghost use Rattle.lapd_pair_laws.specs.Worked.{new_pair, sabme_lost, busy};
 ghost use Rattle.lapd_pair_laws.specs.World.{new_world, run};
-ghost use Rattle.lapd_recovery_laws.specs.AfterOutage.{IsAfterOutage, IsHeldUp, StaysUp};
-ghost use Rattle.lapd_recovery_laws.specs.Agreed.{ComesBack};
 ghost use Rattle.lapd_recovery_laws.specs.EveryWorld.{IsFreeWorld, WorldComesBack};
 ghost use Rattle.lapd_recovery_laws.specs.Deliveries.{RunsEmpty};
 ghost use Rattle.lapd_recovery_laws.specs.EarlyTimers.{ComesBackDespiteTimers};
@@ -20,13 +18,12 @@ ghost use Rattle.lapd_recovery_laws.specs.InTime.{ComesBackInTime};
 ghost use Rattle.lapd_recovery_laws.specs.KeptAgreement.{earlies_out_of_step, KeepsAgreement};
 ghost use Rattle.lapd_recovery_laws.specs.LoneLine.{IsLoneLine, ComesUpAnew};
 ghost use Rattle.lapd_recovery_laws.specs.Losses.{ComesBackDespite, AreOwnOrLosses};
-ghost use Rattle.lapd_recovery_laws.specs.OpenLine.{IsOpenLine, ComesUp};
-ghost use Rattle.lapd_recovery_laws.specs.Recovered.{outcome_of, outcome_of_deliveries, outcome_from, first_of_three_lost, poll_meets_sabme, both_sabmes_lost, network_restarts, restarts_with_one_sent, release_waits, sabmes_lost, disc_lost, release_unheard, disc_meets_sabme, dm_sent, longest, both_in_7, both_in_4, held_up, IsBusy, message_lost, three_polls_lost, two_polls_lost, outcome_despite, outcome_of_few, polls_cross, polled_on, agreed_after, least_pair, all_admitted, outcome_of_least, eight_wait, t200_beside_frames, too_many_t200, network_sabme_lost, t203_before_t200, too_many_t203};
+ghost use Rattle.lapd_recovery_laws.specs.Recovered.{outcome_of, outcome_of_deliveries, first_of_three_lost, poll_meets_sabme, both_sabmes_lost, network_restarts, restarts_with_one_sent, release_waits, sabmes_lost, disc_lost, release_unheard, disc_meets_sabme, dm_sent, longest, both_in_7, both_in_4, held_up, IsBusy, message_lost, three_polls_lost, two_polls_lost, outcome_despite, outcome_of_few, polls_cross, polled_on, agreed_after, least_pair, all_admitted, outcome_of_least, eight_wait, t200_beside_frames, too_many_t200, network_sabme_lost, t203_before_t200, too_many_t203};
 ghost use Rattle.lapd_recovery_laws.specs.ReleasedLine.{IsReleasedLine, ComesDown};
 ghost use Rattle.lapd_recovery_laws.specs.Rounds.{IsRound, idle_end, message_lost_again, losses_go_on, one_sent, t203_again, t203s_go_on, in_state_5, polled_again, busy_goes_on, one_waits, outcome_of_free, establishes_late, MeetsTime};
 ghost use Rattle.lapd_recovery_laws.specs.Timers.{HaveTimersOfStates};
 ghost use Rattle.lapd_recovery_laws.specs.Untimely.{untimely, outcome_of_line, t203_counted, message_sent, t200_overtakes, outcome_of_open, eight_given, t200_beside_each, seven_idle_polls};
-ghost use Rattle.lapd_recovery_laws.specs.WantedLine.{AreWanting, IsWanted};
+ghost use Rattle.lapd_recovery_laws.specs.WantedLine.{AreWanting, IsWanted, StaysUp};
 
 /// Worked worlds recover as expected, on whole numbers and on tags, with either `Recovery`: the
 /// network restarts, without and with a message in transit; both SABMEs are lost; each DISC of a
@@ -36,8 +33,8 @@ ghost use Rattle.lapd_recovery_laws.specs.WantedLine.{AreWanting, IsWanted};
 /// lost: a message and the three polls for it, so that the link is established anew and the message
 /// dropped; and a message and only two polls, so that it is received. Without T203, a network that
 /// restarts leaves the ends apart. With a busy end the moves are not few. The premises of the laws
-/// below hold: after the network's restart the line is held up, where the poll and the SABME cross,
-/// the world is free and wanted, and so is a world in which the SABME of the user is lost. Without
+/// below hold: the world is free and wanted after the network's restart, where the poll and the SABME
+/// cross, and where the SABME of the user is lost. Without
 /// one of the premises of a wanted link both ends are in state 4 in the end: all SABMEs of the user
 /// are lost; its release is pending; its DISC is lost; or a DM is in transit.
 pub fn recovery_is_computed()
@@ -72,9 +69,9 @@ pub fn recovery_is_computed()
         → outcome_of_deliveries r (run r first_of_three_lost (new_pair 3 LastMessage))
         ≡ both_in_7 9 3 0 }
     ensures poll_meets_sabme { (r : Reading)
-        → outcome_from r (run r poll_meets_sabme (new_pair 1 Enquiry)) ≡ both_in_7 5 1 0 }
+        → outcome_of r (run r poll_meets_sabme (new_pair 1 Enquiry)) ≡ both_in_7 5 1 0 }
     ensures poll_meets_sabme_by_last { (r : Reading)
-        → outcome_from r (run r poll_meets_sabme (new_pair 1 LastMessage)) ≡ both_in_7 5 1 0 }
+        → outcome_of r (run r poll_meets_sabme (new_pair 1 LastMessage)) ≡ both_in_7 5 1 0 }
     ensures three_polls_lost { (r : Reading)
         → AreOwnOrLosses r three_polls_lost (run r message_lost (new_pair 1 Enquiry))
         × (outcome_despite r three_polls_lost (run r message_lost (new_pair 1 Enquiry))
@@ -97,13 +94,13 @@ pub fn recovery_is_computed()
         → next_move r (run r network_restarts (new_pair 1 Enquiry)) ≡ None }
     ensures held_up { (r : Reading) → outcome_of r (run r busy (new_pair 1 Enquiry)) ≡ held_up }
     ensures busy { (r : Reading) → IsBusy (run r busy (new_pair 1 Enquiry)) }
-    ensures restart_is_held { (r : Reading)
-        → IsAfterOutage 3 (run r network_restarts (new_pair 1 Enquiry))
-        × IsHeldUp (run r network_restarts (new_pair 1 Enquiry)) }
+    ensures restart_is_wanted { (r : Reading)
+        → IsFreeWorld 3 (run r network_restarts (new_pair 1 Enquiry))
+        × IsWanted (run r network_restarts (new_pair 1 Enquiry)) }
     ensures sabme_lost { (r : Reading) → outcome_of r (run r sabme_lost (new_pair 1 Enquiry))
         ≡ both_in_7 3 0 0 }
     ensures sabme_is_wanted { (r : Reading)
-        → IsAfterOutage 3 (run r sabme_lost (new_pair 1 Enquiry))
+        → IsFreeWorld 3 (run r sabme_lost (new_pair 1 Enquiry))
         × IsWanted (run r sabme_lost (new_pair 1 Enquiry)) }
     ensures poll_met_is_wanted { (r : Reading)
         → IsWanted (run r poll_meets_sabme (new_pair 1 Enquiry)) }
@@ -116,7 +113,7 @@ pub fn recovery_is_computed()
     ensures dm_gone { (r : Reading)
         → AreWanting (run r dm_sent (new_pair 1 Enquiry)).user.end
         (run r dm_sent (new_pair 1 Enquiry)).network.end
-        × (outcome_from r (run r dm_sent (new_pair 1 Enquiry)) ≡ both_in_4 1) }
+        × (outcome_of r (run r dm_sent (new_pair 1 Enquiry)) ≡ both_in_4 1) }
     ensures crossing_polls { (r : Reading)
         → (all_admitted r polls_cross (run r establishing (new_pair 1 Enquiry)) ≡ true)
         × (earlies_out_of_step r polls_cross (run r establishing (new_pair 1 Enquiry)) ≡ 0)
@@ -149,18 +146,6 @@ pub fn timers_of_states_run()
         → (moves : List Move) → HaveTimersOfStates (run r moves (new_world user network)) }
 {}
 
-/// A line with both ends in states 7 and 8 and no frame in transit recovers by itself, if no end is
-/// own receiver busy or at its last try. Its own moves, in any order, are at most three per message
-/// left, and eight more. When none is possible any more, both ends are in state 7 with equal
-/// numbers, no message was dropped, and each was received and acknowledged. The run starts in a new
-/// world, on whole numbers or on tags, with windows of 1 to 127 and either `Recovery`.
-pub fn every_open_line_comes_up()
-    ensures { (r : Reading) (user network : Parameters)
-        → user.k ≤ 127 → network.k ≤ 127 → 1 ≤ user.k → 1 ≤ network.k → (moves : List Move)
-        → IsOpenLine (run r moves (new_world user network))
-        → ComesUp r (run r moves (new_world user network)) }
-{}
-
 /// A line with both ends in states 4 and 6 and no frame in transit is released by itself. Its own
 /// moves, in any order, are at most six, whatever N200 is. When none is possible any more, both
 /// ends are in state 4, and no message is left. The run starts in a new world, on whole numbers or
@@ -182,32 +167,6 @@ pub fn every_lone_line_comes_up()
         → user.k ≤ 127 → network.k ≤ 127 → 1 ≤ user.k → 1 ≤ network.k → (moves : List Move)
         → IsLoneLine n200 (run r moves (new_world user network))
         → ComesUpAnew r n200 (run r moves (new_world user network)) }
-{}
-
-/// After an outage every link recovers by itself. Whatever happened before, if no frame is in
-/// transit and no end in state 7 or 8 is own receiver busy, then the line's own moves, in any
-/// order, are at most three per message left, six per retransmission that N200 allows, and eleven
-/// more. When none is possible any more, both ends agree: both in state 4, or both in state 7 with
-/// equal numbers, and no message is left. The run starts in a new world, on whole numbers or on
-/// tags, with windows of 1 to 127 and either `Recovery`. `n200` is at least 1, and at least
-/// N200 of each end.
-pub fn every_line_comes_back()
-    ensures { (r : Reading) (n200 : ℕ) → 1 ≤ n200 → (user network : Parameters)
-        → user.k ≤ 127 → network.k ≤ 127 → 1 ≤ user.k → 1 ≤ network.k → (moves : List Move)
-        → IsAfterOutage n200 (run r moves (new_world user network))
-        → ComesBack r n200 (run r moves (new_world user network)) }
-{}
-
-/// After an outage a link that one end holds up, and that neither end releases, stays up, whenever
-/// timers expire: when no own move is possible any more, both ends are in state 7 with equal
-/// numbers. The premises are those of [`every_line_comes_back`], but T200 and T203 expire as in
-/// [`every_wanted_line_comes_up`].
-pub fn every_held_line_stays_up()
-    ensures { (r : Reading) (n200 : ℕ) → 1 ≤ n200 → (user network : Parameters)
-        → user.k ≤ 127 → network.k ≤ 127 → 1 ≤ user.k → 1 ≤ network.k → (moves : List Move)
-        → IsAfterOutage n200 (run r moves (new_world user network))
-        → IsHeldUp (run r moves (new_world user network))
-        → StaysUp r (run r moves (new_world user network)) }
 {}
 
 /// The line runs empty: deliveries alone, in any order of the two directions, are at most two per

@@ -1,4 +1,4 @@
-use Rattle.lapd_recovery_laws.proofs.EveryWorld.{every_world_comes_back}
+use Rattle.lapd_recovery_laws.proofs.DespiteLosses.{every_world_comes_back}
 use Rattle.lapd_recovery_laws.proofs.recovery.every_world_comes_back.Goals as goal
 
 pub returns : goal.returns

@@ -1,4 +1,4 @@
-use Rattle.lapd_recovery_laws.proofs.WorkedWorlds.{restart_back, restart_back_by_last, sabmes_back, sabmes_back_by_last, one_sent_back, one_sent_back_by_last, unheard_back, unheard_back_by_last, crossed_back, crossed_back_by_last, longest_back, longest_back_by_last, first_lost, first_lost_by_last, poll_met, poll_met_by_last, three_lost, three_lost_by_last, two_lost, two_lost_by_last, rests_apart, busy_is_held_up, network_is_busy, restart_is_held, sabme_back, sabme_is_wanted, last_try_gone, waiting_release_gone, poll_met_is_wanted, release_goes_on, dm_gone, crossing_polls, polls_after_restart, t200_beside, t203_first, poll_met_is_free}
+use Rattle.lapd_recovery_laws.proofs.WorkedWorlds.{restart_back, restart_back_by_last, sabmes_back, sabmes_back_by_last, one_sent_back, one_sent_back_by_last, unheard_back, unheard_back_by_last, crossed_back, crossed_back_by_last, longest_back, longest_back_by_last, first_lost, first_lost_by_last, poll_met, poll_met_by_last, three_lost, three_lost_by_last, two_lost, two_lost_by_last, rests_apart, busy_is_held_up, network_is_busy, restart_is_wanted, sabme_back, sabme_is_wanted, last_try_gone, waiting_release_gone, poll_met_is_wanted, release_goes_on, dm_gone, crossing_polls, polls_after_restart, t200_beside, t203_first, poll_met_is_free}
 use Rattle.lapd_recovery_laws.proofs.recovery.recovery_is_computed.Goals as goal
 
 pub returns : goal.returns
@@ -26,7 +26,7 @@ returns c = record {
   apart_without_t203 = rests_apart;
   held_up = busy_is_held_up;
   busy = network_is_busy;
-  restart_is_held = restart_is_held;
+  restart_is_wanted = restart_is_wanted;
   sabme_lost = sabme_back;
   sabme_is_wanted = sabme_is_wanted;
   last_try_gone = last_try_gone;

@@ -2,7 +2,7 @@ use Rattle.std.proofs.Common.{is_none, sym, ap, subst, ◌∙◌, arith}
 use Rattle.lapd_mod128.specs.Counting.{Tagged}
 use Rattle.lapd_recovery_laws.specs.Own.{tried, first_own, recovering}
 use Rattle.lapd_pair.specs.Moves.{move_of}
-use Rattle.lapd_pair.proofs.Recovering.{one_more, no_more, none_recovered, as_recovered, own_stopped_at, come_back, come_back_from}
+use Rattle.lapd_pair.proofs.Recovering.{one_more, no_more, none_recovered, as_recovered, own_stopped_at, come_back}
 use Rattle.lapd_pair.proofs.Repeated.{AreMade, none_mapped, none_is_not_some, one_made, no_move_is_left, all_made}
 use Rattle.lapd_pair.proofs.SafePairs.{pair_is_safe}
 use Rattle.lapd_pair.proofs.SafeReaders.{readings_are_safe}
@@ -29,11 +29,6 @@ returns-in_default-clause-ok c =
 pub returns-in_default-clause-agreed : goal.returns-in_default-clause-agreed
 returns-in_default-clause-agreed c =
     come_back c.args.self.now c.loop-moves.self _ (returns-in_default-clause-ok c)
-    c.most_recovery_moves-most.ensures.retries
-
-pub returns-in_default-clause-back : goal.returns-in_default-clause-back
-returns-in_default-clause-back c =
-    come_back_from c.args.self.now c.loop-moves.self _ (returns-in_default-clause-ok c)
     c.most_recovery_moves-most.ensures.retries
 
 pub returns-in_default-clause-safe : goal.returns-in_default-clause-safe
@@ -68,11 +63,6 @@ returns-clause-ok c =
 pub returns-clause-agreed : goal.returns-clause-agreed
 returns-clause-agreed c =
     come_back c.args.self.now c.loop-moves.self _ (returns-clause-ok c)
-    c.most_recovery_moves-most.ensures.retries
-
-pub returns-clause-back : goal.returns-clause-back
-returns-clause-back c =
-    come_back_from c.args.self.now c.loop-moves.self _ (returns-clause-ok c)
     c.most_recovery_moves-most.ensures.retries
 
 pub returns-clause-safe : goal.returns-clause-safe
