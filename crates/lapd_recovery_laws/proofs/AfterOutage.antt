@@ -11,17 +11,19 @@ use Rattle.lapd_link_definition.specs.End.{End, unsent}
 use Rattle.lapd_link_definition.specs.RunningTimers.{HasTimersOfState}
 use Rattle.lapd_link_definition.specs.Parameters.{Parameters}
 use Rattle.lapd_link_definition.specs.Tagging.{tag_end}
-use Rattle.lapd_pair_laws.specs.Consistent.{IsConsistentWorld}
+use Rattle.lapd_pair_laws.specs.Consistent.{IsConsistentWorld, AreSettled}
 use Rattle.lapd_pair_laws.specs.Invariant.{IsInvariant}
 use Rattle.lapd_pair_laws.specs.Move.{PairEvent, Expire203, Move, Station}
-use Rattle.lapd_pair_laws.specs.Parties.{party}
-use Rattle.lapd_pair_laws.specs.World.{World, swapped, view_of, world_after, happens, run, left}
+use Rattle.lapd_pair_laws.specs.Parties.{party, Party}
+use Rattle.lapd_pair_laws.specs.World.{World, swapped, view_of, world_after, happens, run, left, left_of}
 use Rattle.lapd_pair_laws.proofs.Consistency.{run_consistent}
 use Rattle.lapd_pair_laws.proofs.EndsPreserved.{stays_sound}
 use Rattle.lapd_pair_laws.proofs.SettledEnds.{move_settles}
 use Rattle.lapd_pair_laws.proofs.Settles.{IsStill}
 use Rattle.lapd_pair_laws.proofs.Stepping.{user_move, network_move}
 use Rattle.lapd_pair_laws.proofs.Whole.{each_move_preserves}
+use Rattle.lapd_pair_laws.specs.Conjuncts.{IsEmpty, IsConsistentSender}
+use Rattle.lapd_pair_laws.proofs.Settled.{left_settled}
 use Rattle.lapd_recovery_laws.proofs.OpenLine.{drained_agree}
 use Rattle.lapd_recovery_laws.specs.WantedLine.{IsKept, AreWanting}
 use Rattle.lapd_recovery_laws.specs.Agreed.{AreAgreed}
@@ -34,7 +36,6 @@ use Rattle.lapd_recovery_laws.proofs.Lost.{at}
 use Rattle.lapd_recovery_laws.proofs.LostMoves.{moved_user, moved_network}
 use Rattle.lapd_recovery_laws.proofs.Outage.{coming_moves}
 use Rattle.lapd_recovery_laws.proofs.OutageWorlds.{Facts}
-use Rattle.lapd_recovery_laws.proofs.Releases.{empty_in_4}
 use Rattle.lapd_recovery_laws.proofs.Situations.{tries, attempt_in, attempt, gone_in, gone, again_in, again, finds_in, finds, polls_in, polls, Closed, Half, alone_4, alone_5, alone_6, asks_5, asks_6, accepted, crossed, refused, parting, closed, Coming}
 use Rattle.lapd_recovery_laws.proofs.TimersOfRuns.{timers_after_move}
 use Rattle.lapd_recovery_laws.proofs.Transitions.{timers_in}
@@ -151,6 +152,17 @@ in_state_4 e has c off = by_state e.state refl c
     by_state AwaitingRelease is c = let on = (timers_in AwaitingRelease e has is).0 in cc
     by_state MultipleFrameEstablished is c = cc
     by_state TimerRecovery is c = cc
+
+pub empty_in_4 : (s : Station) (x : Party) → x.sends.given ≡ s.end.given
+    → x.sends.first ≡ s.end.first → x.sends.passed ≡ s.history.passed → x.state ≡ TeiAssigned
+    → IsConsistentSender x.state x.asked x.leaving x.sends → x.sends.passed ≡ x.sends.first
+    → AreSettled s.history → left_of s ≡ 0
+empty_in_4 s x given first gone is preserved passed settled =
+    let none : IsEmpty x.sends =
+    subst (λ st. IsConsistentSender st x.asked x.leaving x.sends) is preserved in
+    let all : x.sends.first ≡ length x.sends.given = none.first in
+    let same : length x.sends.given ≡ length s.end.given = ap length given in
+    left_settled s settled ∙ omega (arith, all, same, passed, gone)
 
 closed_agree : (w : World) → IsInvariant w → IsConsistentWorld Whole w → HaveTimersOfStates w
     → IsStill w → is_7_or_8 w.user.end.state ≡ false → is_7_or_8 w.network.end.state ≡ false

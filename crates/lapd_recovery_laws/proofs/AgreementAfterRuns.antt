@@ -161,15 +161,15 @@ module _ (N : ℕ) (some : 1 ≤ N) (user network : Parameters) (user_small : us
   reached = run Whole moves (new_world user network)
 
   holds : IsInvariant reached
-  holds = runs.holds user network user_small network_small user_some network_some moves
+  holds = runs.holds user network user_small network_small moves
 
   preserved : IsConsistentWorld Whole reached
-  preserved = runs.preserved user network user_small network_small user_some network_some moves
+  preserved = runs.preserved user network user_small network_small moves
 
   kept_whole : IsFreeWorld N reached → Kept N reached
   kept_whole a =
       let facts =
-      runs.facts user network user_small network_small user_some network_some moves N
+      runs.facts user network user_small network_small moves user_some network_some N
       a.user_retries a.network_retries in
       world_keeps N reached (record { facts = facts; preserved = preserved })
       (despite_timers N some reached facts preserved a.user_free a.network_free)

@@ -32,7 +32,7 @@ use Rattle.lapd_recovery_laws.proofs.OwnBySide.{t200_runs, t203_runs}
 use Rattle.lapd_recovery_laws.proofs.Renewals.{halting, halting_append, none_halting, Renews, shut_renews, IsCounted, counted, request_in, under_way, request, request_falls, open_requests_none}
 use Rattle.lapd_recovery_laws.proofs.StaysOpen.{SendsPoll, AwaitsNone, awaits_none}
 use Rattle.lapd_recovery_laws.proofs.TimersBeside.{IsBeside, t200_beside, t203_beside}
-use Rattle.lapd_recovery_laws.proofs.Transitions.{timers_in}
+use Rattle.lapd_recovery_laws.proofs.Transitions.{timers_in, in_7_if_t203}
 
 -- one less is to come, or T200 expires once less until then
 abbrev pub Goes200 : ℕ → ℕ → ℕ → ℕ → End → End → List Flight → List Flight → Type 0
@@ -439,31 +439,17 @@ module _ (N U p n : ℕ) (some : 1 ≤ N) (x y : Station) (to_user to_network : 
   pub expires_203 : is_ok (acts Whole side.User Expire203 seen) ≡ true
       → Controls U (p + 3) (beside Expire203).station.end y.end (beside Expire203).incoming
       (beside Expire203).outgoing
-  expires_203 ok = by_state x.end.state refl
-    where
-      runs : x.end.t203 ≡ true
-      runs = t203_runs seen ok
-
-      by_state : (state : State) → x.end.state ≡ state
-          → Controls U (p + 3) (beside Expire203).station.end y.end (beside Expire203).incoming
-          (beside Expire203).outgoing
-      by_state MultipleFrameEstablished is =
-          let opened = ap is_7_or_8 is in
-          let polls = polls_by_t203 x is runs in
-          let all =
-          polled_controls Expire203 0 opened polls 1
-          (λ level. let few = c.mine.left opened in omega (arith, few)) in
-          placed x to_user to_network (λ d l m. Controls U (p + 3) d y.end l m) Expire203
-          (by Expire203).station.end (polls.frame ∷ []) (t203_beside x to_user to_network ok) refl
-          polls.outgoing
-          (subst (λ j. Controls U j (by Expire203).station.end y.end to_user
-          (to_network ++ polls.frame ∷ []))
-          (let same : p + 3 * 1 ≡ p + 3 = omega arith in same) all)
-      by_state TeiAssigned is =
-          let off = (timers_in TeiAssigned x.end f.have.user is).1 in let on = runs in cc
-      by_state AwaitingEstablishment is =
-          let off = (timers_in AwaitingEstablishment x.end f.have.user is).1 in let on = runs in cc
-      by_state AwaitingRelease is =
-          let off = (timers_in AwaitingRelease x.end f.have.user is).1 in let on = runs in cc
-      by_state TimerRecovery is =
-          let off = (timers_in TimerRecovery x.end f.have.user is).1 in let on = runs in cc
+  expires_203 ok =
+      let runs = t203_runs seen ok in
+      let is = in_7_if_t203 x.end f.have.user runs in
+      let opened = ap is_7_or_8 is in
+      let polls = polls_by_t203 x is runs in
+      let all =
+      polled_controls Expire203 0 opened polls 1
+      (λ level. let few = c.mine.left opened in omega (arith, few)) in
+      placed x to_user to_network (λ d l m. Controls U (p + 3) d y.end l m) Expire203
+      (by Expire203).station.end (polls.frame ∷ []) (t203_beside x to_user to_network ok) refl
+      polls.outgoing
+      (subst (λ j. Controls U j (by Expire203).station.end y.end to_user
+      (to_network ++ polls.frame ∷ []))
+      (let same : p + 3 * 1 ≡ p + 3 = omega arith in same) all)

@@ -19,7 +19,7 @@ use Rattle.lapd_recovery_laws.proofs.Lost.{at}
 use Rattle.lapd_recovery_laws.proofs.OutageWorlds.{Facts}
 use Rattle.lapd_recovery_laws.proofs.RunsEmpty as runs
 use Rattle.lapd_recovery_laws.proofs.RunsEmpty.{Flow}
-use Rattle.lapd_recovery_laws.proofs.TimersExpire.{Expires, t200_expires, t203_expires}
+use Rattle.lapd_recovery_laws.proofs.TimersBeside.{ExpiresBeside, most_beside, t200_early, t203_early}
 
 pub flow_more : (m n : ℕ) (w : World) → m ≤ n → Flow m w → Flow n w
 flow_more m n w le f =
@@ -167,10 +167,10 @@ module _ (N l most : ℕ) (Holds Weight : ℕ → World → Type 0)
         few = omega (arith, some_few, few);
       }
 
-  expire : (n : ℕ) (s : Side) (event : PairEvent) (w : World) → Keeps N l w → Returns n w
-      → IsOwn Whole (record { side = s; event = event }) w → Expires w (after s event w)
-      → Falls n (after s event w)
-  expire n s event w k r own x =
+  expire : (n m : ℕ) (s : Side) (event : PairEvent) (w : World) → Keeps N l w → Returns n w
+      → IsOwn Whole (record { side = s; event = event }) w → frames w ≡ 0
+      → ExpiresBeside m w (after s event w) → Falls n (after s event w)
+  expire n m s event w k r own none x =
       let now = after s event w in
       let c = h.falls r.m s event w r.weight k own in
       let one = c.some_left in
@@ -178,6 +178,7 @@ module _ (N l most : ℕ) (Holds Weight : ℕ → World → Type 0)
       let few = k.few in
       let u = x.user_fewer in
       let v = x.network_fewer in
+      let sent = x.one_more in
       let still : Keeps N l now = record {
         facts = facts_after N (record { side = s; event = event }) w k.facts;
         preserved = run_consistent Whole (record { side = s; event = event } ∷ []) w k.preserved;
@@ -192,7 +193,7 @@ module _ (N l most : ℕ) (Holds Weight : ℕ → World → Type 0)
             inr (record {
               m = r.m - 1;
               weight = c.weight;
-              flow = quiet_flow now still x.few;
+              flow = quiet_flow now still (omega (arith, none, sent));
               few = omega (arith, one, most_few);
             });
       }
@@ -202,8 +203,10 @@ module _ (N l most : ℕ) (Holds Weight : ℕ → World → Type 0)
       → IsOwn Whole (record { side = s; event = Expire200 }) (at x y to_user to_network)
       → Falls n (after s Expire200 (at x y to_user to_network))
   own_expires_200 b n s x y [] [] w own =
-      expire n s Expire200 (at x y [] []) w.keeps (emptied b n x y w.keeps w.holds w.phase) own
-      (t200_expires s x y w.keeps.facts.have own.admitted)
+      let f = w.keeps.facts in
+      let r = emptied b n x y w.keeps w.holds w.phase in
+      expire n (most_beside (3 * l + 6) s Expire200 (at x y [] [])) s Expire200 (at x y [] []) w.keeps
+      r own refl (t200_early (3 * l + 6) x y [] [] f.holds f.have r.flow s own.admitted)
   own_expires_200 b n s x y (frame ∷ arriving) to_network w own = let due = own.due in cc
   own_expires_200 b n s x y [] (frame ∷ arriving) w own = let due = own.due in cc
 
@@ -212,8 +215,10 @@ module _ (N l most : ℕ) (Holds Weight : ℕ → World → Type 0)
       → IsOwn Whole (record { side = s; event = Expire203 }) (at x y to_user to_network)
       → Falls n (after s Expire203 (at x y to_user to_network))
   own_expires_203 b n s x y [] [] w own =
-      expire n s Expire203 (at x y [] []) w.keeps (emptied b n x y w.keeps w.holds w.phase) own
-      (t203_expires s x y w.keeps.facts.have own.admitted)
+      let f = w.keeps.facts in
+      let r = emptied b n x y w.keeps w.holds w.phase in
+      expire n (most_beside (3 * l + 6) s Expire203 (at x y [] [])) s Expire203 (at x y [] []) w.keeps
+      r own refl (t203_early (3 * l + 6) x y [] [] f.holds f.have r.flow s own.admitted)
   own_expires_203 b n s x y (frame ∷ arriving) to_network w own = let due = own.due in cc
   own_expires_203 b n s x y [] (frame ∷ arriving) w own = let due = own.due in cc
 

@@ -1,11 +1,11 @@
 -- Deliveries, losses and expired timers are counted. An early timer leads back to the first phase of
 -- `CountedMoves`, as a loss does.
-use Rattle.std.proofs.Common.{◌≡◌, ◌⊎◌, inl, inr, ℕ, ◌+◌, ◌*◌, ◌-◌, ◌≤◌, not, Bool, true, false, List, [], ◌∷◌, length, is_ok, refl, sym, ap, subst, arith}
+use Rattle.std.proofs.Common.{◌≡◌, ◌⊎◌, inl, inr, ℕ, ◌+◌, ◌*◌, ◌-◌, ◌≤◌, not, Bool, true, false, List, [], ◌∷◌, length, refl, sym, ap, subst, arith, ◌∙◌}
 use Rattle.lapd_frame.specs.declared.Side.{Side}
 use Rattle.lapd_mod128.specs.Counting.{Whole}
 use Rattle.lapd_link_definition.specs.End.{waiting}
 use Rattle.lapd_pair_laws.specs.Move.{PairEvent, Deliver, Lose, Expire200, Expire203, Move}
-use Rattle.lapd_pair_laws.specs.World.{World, view_of, happens, run}
+use Rattle.lapd_pair_laws.specs.World.{World, view_of, run}
 use Rattle.lapd_pair_laws.proofs.Consistency.{run_consistent}
 use Rattle.lapd_recovery_laws.specs.Deliveries.{most_deliveries}
 use Rattle.lapd_recovery_laws.specs.EarlyTimers.{IsLineMove, AreLineMoves, is_early, earlies, overtaken_by, overtaken}
@@ -116,48 +116,29 @@ module _ (N l most : ℕ) (Weight : ℕ → World → Type 0)
       step n (n - 1) s event w moves (omega (arith, one))
       (record { keeps = f.keeps; phase = f.phase }) rest
 
-  expires_200 : (n : ℕ) (s : Side) (w : World) (moves : List Move) → Within n w
-      → is_ok (happens Whole (record { side = s; event = Expire200 }) w) ≡ true
-      → Rest moves (after s Expire200 w)
-      → Comes n w (record { side = s; event = Expire200 } ∷ moves)
-  expires_200 n s w moves k ok rest = by_due (is_due Expire200 w) refl
+  -- a timer expires, due or early
+  expires : (n : ℕ) (s : Side) (event : PairEvent) (w : World) (moves : List Move) → Within n w
+      → is_early event w ≡ not (is_due event w)
+      → (is_due event w ≡ true → counted.Falls N l most Always Weight h n (after s event w))
+      → ((m : ℕ) → Flow m w
+      → ExpiresBeside (m + 3 * waiting w.user.end + 3 * waiting w.network.end + 6
+      + overtaken_by event (view_of s w)) w (after s event w))
+      → Rest moves (after s event w)
+      → Comes n w (record { side = s; event = event } ∷ moves)
+  expires n s event w moves k same own beside rest = by_due (is_due event w) refl
     where
-      by_due : (b : Bool) → is_due Expire200 w ≡ b
-          → Comes n w (record { side = s; event = Expire200 } ∷ moves)
-      by_due true due =
-          falls n s Expire200 w moves
-          (counted.own_expires_200 N l most Always Weight h 0 n s w.user w.network w.to_user
-          w.to_network (bounded 0 n w k) (record { due = due; admitted = ok })) rest
-      by_due false not_due =
-          let late = overtaken_by Expire200 (view_of s w) in
-          let one : one_if (is_early Expire200 w) ≡ 1 = ap (λ b. one_if (not b)) not_due in
-          step n (n + (early_rise + late)) s Expire200 w moves
-          (subst (λ j. n + (early_rise + late) + 1
-          ≤ n + (one_if (is_loss Expire200) * (rise + 1) + j * (early_rise + 1) + late)) (sym one)
-          (omega arith))
-          (early n late s Expire200 w k (λ m flow. t200_early m w.user w.network w.to_user
-          w.to_network k.keeps.facts.holds k.keeps.facts.have flow s ok)) rest
+      late : ℕ
+      late = overtaken_by event (view_of s w)
 
-  expires_203 : (n : ℕ) (s : Side) (w : World) (moves : List Move) → Within n w
-      → is_ok (happens Whole (record { side = s; event = Expire203 }) w) ≡ true
-      → Rest moves (after s Expire203 w)
-      → Comes n w (record { side = s; event = Expire203 } ∷ moves)
-  expires_203 n s w moves k ok rest = by_due (is_due Expire203 w) refl
-    where
-      by_due : (b : Bool) → is_due Expire203 w ≡ b
-          → Comes n w (record { side = s; event = Expire203 } ∷ moves)
-      by_due true due =
-          falls n s Expire203 w moves
-          (counted.own_expires_203 N l most Always Weight h 0 n s w.user w.network w.to_user
-          w.to_network (bounded 0 n w k) (record { due = due; admitted = ok })) rest
+      by_due : (b : Bool) → is_due event w ≡ b
+          → Comes n w (record { side = s; event = event } ∷ moves)
+      by_due true due = falls n s event w moves (own due) rest
       by_due false not_due =
-          let one : one_if (is_early Expire203 w) ≡ 1 = ap (λ b. one_if (not b)) not_due in
-          step n (n + (early_rise + 0)) s Expire203 w moves
-          (subst (λ j. n + (early_rise + 0) + 1
-          ≤ n + (one_if (is_loss Expire203) * (rise + 1) + j * (early_rise + 1) + 0)) (sym one)
-          (omega arith))
-          (early n 0 s Expire203 w k (λ m flow. t203_early m w.user w.network w.to_user
-          w.to_network k.keeps.facts.holds k.keeps.facts.have flow s ok)) rest
+          let one : one_if (is_early event w) ≡ 1 = ap one_if same ∙ ap (λ b. one_if (not b)) not_due in
+          step n (n + (early_rise + late)) s event w moves
+          (subst (λ j. n + (early_rise + late) + 1
+          ≤ n + (one_if (is_loss event) * (rise + 1) + j * (early_rise + 1) + late)) (sym one)
+          (omega arith)) (early n late s event w k beside) rest
 
   first : (n : ℕ) (s : Side) (event : PairEvent) (w : World) (moves : List Move) → Within n w
       → IsLineMove Whole (record { side = s; event = event }) w → Rest moves (after s event w)
@@ -171,8 +152,18 @@ module _ (N l most : ℕ) (Weight : ℕ → World → Type 0)
       counted.lose N l most Always Weight h 0 n i s w (bounded 1 n w k) one.admitted in
       step n (n + rise) s (Lose i) w moves (omega arith)
       (record { keeps = b.keeps; phase = b.phase }) rest
-  first n s Expire200 w moves k one rest = expires_200 n s w moves k one.admitted rest
-  first n s Expire203 w moves k one rest = expires_203 n s w moves k one.admitted rest
+  first n s Expire200 w moves k one rest =
+      expires n s Expire200 w moves k refl
+      (λ due. counted.own_expires_200 N l most Always Weight h 0 n s w.user w.network w.to_user
+      w.to_network (bounded 0 n w k) (record { due = due; admitted = one.admitted }))
+      (λ m flow. t200_early m w.user w.network w.to_user w.to_network k.keeps.facts.holds
+      k.keeps.facts.have flow s one.admitted) rest
+  first n s Expire203 w moves k one rest =
+      expires n s Expire203 w moves k refl
+      (λ due. counted.own_expires_203 N l most Always Weight h 0 n s w.user w.network w.to_user
+      w.to_network (bounded 0 n w k) (record { due = due; admitted = one.admitted }))
+      (λ m flow. t203_early m w.user w.network w.to_user w.to_network k.keeps.facts.holds
+      k.keeps.facts.have flow s one.admitted) rest
   first n s event w moves k one rest = let impossible = one.of_line in cc
 
   comes : (moves : List Move) (n : ℕ) (w : World) → Within n w → AreLineMoves Whole moves w

@@ -15,19 +15,19 @@ use Rattle.lapd_pair_laws.specs.Tagged.{tag_flight, tag_world}
 use Rattle.lapd_pair_laws.specs.World.{World, view_of, new_world, happens, world_after, run, left}
 use Rattle.lapd_pair_laws.proofs.Consistency.{run_consistent}
 use Rattle.lapd_pair_laws.proofs.TaggedMoves.{left_on_tags}
-use Rattle.lapd_pair_laws.proofs.Whole.{each_move_preserves, each_run_preserves}
+use Rattle.lapd_pair_laws.proofs.Whole.{each_move_preserves}
 use Rattle.lapd_recovery_laws.specs.Agreed.{AreAgreed}
 use Rattle.lapd_recovery_laws.specs.Deliveries.{frames}
 use Rattle.lapd_recovery_laws.specs.EarlyTimers.{AreLineMoves, is_early, earlies, is_message, messages_in, if_in_8, overtaken_by, overtaken, most_line_moves, ComesBackDespiteTimers}
 use Rattle.lapd_recovery_laws.specs.EveryWorld.{IsFreeWorld}
 use Rattle.lapd_recovery_laws.specs.Losses.{one_if, losses}
-use Rattle.lapd_recovery_laws.specs.Own.{Rests, IsFree}
+use Rattle.lapd_recovery_laws.specs.Own.{IsFree}
 use Rattle.lapd_recovery_laws.proofs.CountedMoves.{Keeps, IsWeight}
 use Rattle.lapd_recovery_laws.proofs.CountedTimers.{line_moves_counted}
 use Rattle.lapd_recovery_laws.proofs.EveryWorld.{emptied_at, rests_agree, free_world_by_tags}
 use Rattle.lapd_recovery_laws.proofs.Outage.{coming_moves}
 use Rattle.lapd_recovery_laws.proofs.OutageWorlds.{Facts}
-use Rattle.lapd_recovery_laws.proofs.OwnOnTags.{due_on_tags, ok_on_tags, world_on_tags, rests_by_tags, ran_on_tags, agreed_on_tags}
+use Rattle.lapd_recovery_laws.proofs.OwnOnTags.{due_on_tags, ok_on_tags, world_on_tags, agreed_on_tags, at_rest_on_tags}
 use Rattle.lapd_recovery_laws.proofs.RunsEmpty as runs
 use Rattle.lapd_recovery_laws.proofs.RunsEmpty.{after_runs}
 use Rattle.lapd_recovery_laws.proofs.Situations.{Coming}
@@ -162,13 +162,8 @@ on_tags N w i preserved c = record {
       let few = c.few moves a.own in
       omega (arith, same, few);
   agreed = λ moves own rests.
-      let a = line_moves_by_tags moves w i preserved own in
-      let now = run Whole moves w in
-      let same : run Tagged moves (tag_world w) ≡ tag_world now = ran_on_tags moves w i preserved in
-      let still : Rests Whole now =
-      rests_by_tags now (each_run_preserves moves w i)
-      (run_consistent Whole moves w preserved) (subst (λ v. Rests Tagged v) same rests) in
-      subst AreAgreed (sym same) (agreed_on_tags now (c.agreed moves a.own still));
+      at_rest_on_tags (λ v. AreAgreed v) (λ v. AreAgreed v) agreed_on_tags moves w i preserved
+      (c.agreed moves (line_moves_by_tags moves w i preserved own).own) rests;
 }
 
 -- ---- After every run.

@@ -23,7 +23,7 @@ use Rattle.lapd_recovery_laws.specs.FewLosses.{t203s, most_t200s, most_open_line
 use Rattle.lapd_recovery_laws.specs.Deliveries.{frames}
 use Rattle.lapd_recovery_laws.specs.EarlyTimers.{AreLineMoves}
 use Rattle.lapd_recovery_laws.specs.Losses.{is_loss, AreOwnOrLosses, losses}
-use Rattle.lapd_recovery_laws.specs.Own.{IsOwn, Rests}
+use Rattle.lapd_recovery_laws.specs.Own.{IsOwn}
 use Rattle.lapd_recovery_laws.proofs.AfterOutage.{free_by_tags}
 use Rattle.lapd_recovery_laws.proofs.AnyOrder.{Draining, own_moves_on}
 use Rattle.lapd_recovery_laws.proofs.CountedMoves.{after, Keeps, IsWeight, moves_counted}
@@ -31,7 +31,7 @@ use Rattle.lapd_recovery_laws.proofs.DespiteTimers.{despite_timers, line_moves_b
 use Rattle.lapd_recovery_laws.proofs.EveryWorld.{drains_at}
 use Rattle.lapd_recovery_laws.proofs.OpenMoves.{open_moves_counted}
 use Rattle.lapd_recovery_laws.proofs.OutageWorlds.{Facts}
-use Rattle.lapd_recovery_laws.proofs.OwnOnTags.{due_on_tags, ok_on_tags, world_on_tags, rests_by_tags, ran_on_tags, are_level_on_tags, agreed_on_tags}
+use Rattle.lapd_recovery_laws.proofs.OwnOnTags.{due_on_tags, ok_on_tags, world_on_tags, ran_on_tags, are_level_on_tags, agreed_on_tags, at_rest_on_tags}
 use Rattle.lapd_recovery_laws.proofs.RunsEmpty as runs
 use Rattle.lapd_recovery_laws.proofs.RunsEmpty.{after_runs}
 use Rattle.lapd_recovery_laws.proofs.StaysOpen.{Tries, Lasts, less, deliver, expire_200, never_203, lose, Through, goes_through}
@@ -213,13 +213,8 @@ on_tags lost w i preserved k = record {
         network_dropped = s.network_dropped;
       });
   up = λ moves own le rests.
-      let now = run Whole moves w in
-      let same : run Tagged moves (tag_world w) ≡ tag_world now = ran_on_tags moves w i preserved in
-      let still : Rests Whole now =
-      rests_by_tags now (each_run_preserves moves w i)
-      (run_consistent Whole moves w preserved) (subst (λ v. Rests Tagged v) same rests) in
-      subst (λ v. IsUp (tag_world w) v) (sym same)
-      (up_on_tags w now (k.up moves (line_moves_by_tags moves w i preserved own).own le still));
+      at_rest_on_tags (λ v. IsUp w v) (λ v. IsUp (tag_world w) v) (up_on_tags w) moves w i preserved
+      (k.up moves (line_moves_by_tags moves w i preserved own).own le) rests;
 }
 
 outlasts_by_tags : (lost : ℕ) (e : End) → Outlasts lost (tag_end e) → Outlasts lost e

@@ -10,7 +10,7 @@ use Rattle.lapd_pair_laws.specs.Tagged.{tag_world}
 use Rattle.lapd_pair_laws.specs.World.{World, new_world, happens, world_after, run, left}
 use Rattle.lapd_pair_laws.proofs.Consistency.{run_consistent}
 use Rattle.lapd_pair_laws.proofs.TaggedMoves.{left_on_tags}
-use Rattle.lapd_pair_laws.proofs.Whole.{each_move_preserves, each_run_preserves}
+use Rattle.lapd_pair_laws.proofs.Whole.{each_move_preserves}
 use Rattle.lapd_recovery_laws.specs.Agreed.{AreAgreed}
 use Rattle.lapd_recovery_laws.specs.Deliveries.{frames}
 use Rattle.lapd_recovery_laws.specs.EarlyTimers.{IsLineMove, AreLineMoves, is_early, earlies, overtaken, most_line_moves, ComesBackDespiteTimers}
@@ -28,7 +28,7 @@ use Rattle.lapd_recovery_laws.proofs.Expiries.{one_if_few}
 use Rattle.lapd_recovery_laws.proofs.FreeTimers.{t200s_few}
 use Rattle.lapd_recovery_laws.proofs.KeepsAgreement.{Knows, knows_after, calm_stays, in_step_is_calm, settled, stays_agreed, own_is_plain}
 use Rattle.lapd_recovery_laws.proofs.Overtaken.{overtaken_few}
-use Rattle.lapd_recovery_laws.proofs.OwnOnTags.{world_on_tags, rests_by_tags, ran_on_tags, agreed_on_tags}
+use Rattle.lapd_recovery_laws.proofs.OwnOnTags.{world_on_tags, ran_on_tags, agreed_on_tags, at_rest_on_tags}
 use Rattle.lapd_recovery_laws.proofs.Rejoins.{is_apart_t203, apart_t203s, few_due}
 use Rattle.lapd_recovery_laws.proofs.RunsEmpty as runs
 use Rattle.lapd_recovery_laws.proofs.RunsEmpty.{after_runs}
@@ -282,13 +282,8 @@ on_tags N w i preserved c = record {
       (c.reached moves (line_moves_by_tags moves w i preserved own).own none
       (omega (arith, same, le))));
   agreed = λ moves own rests.
-      let a = line_moves_by_tags moves w i preserved own in
-      let now = run Whole moves w in
-      let same : run Tagged moves (tag_world w) ≡ tag_world now = ran_on_tags moves w i preserved in
-      let still : Rests Whole now =
-      rests_by_tags now (each_run_preserves moves w i)
-      (run_consistent Whole moves w preserved) (subst (λ v. Rests Tagged v) same rests) in
-      subst AreAgreed (sym same) (agreed_on_tags now (c.agreed moves a.own still));
+      at_rest_on_tags (λ v. AreAgreed v) (λ v. AreAgreed v) agreed_on_tags moves w i preserved
+      (c.agreed moves (line_moves_by_tags moves w i preserved own).own) rests;
 }
 
 pub every_world_comes_back_whenever_timers_expire : (r : Reading) (n200 : ℕ) → 1 ≤ n200

@@ -50,7 +50,6 @@ pub mod QuickRuns
 pub mod QuickSchedule
 pub mod Rejoins
 pub mod Releases
-pub mod ReleasesAfterRuns
 pub mod Renewals
 pub mod Replies
 pub mod RepliesOfRows
@@ -61,7 +60,6 @@ pub mod SendsOn
 pub mod Situations
 pub mod StaysOpen
 pub mod TimersBeside
-pub mod TimersExpire
 pub mod TimersOfRuns
 pub mod TimersWanted
 pub mod Transitions

@@ -12,18 +12,16 @@ use Rattle.lapd_pair_laws.specs.Move.{Move}
 use Rattle.lapd_pair_laws.specs.Parties.{party}
 use Rattle.lapd_pair_laws.specs.Tagged.{tag_world}
 use Rattle.lapd_pair_laws.specs.World.{World, swapped, new_world, run, left}
-use Rattle.lapd_pair_laws.proofs.Consistency.{run_consistent}
 use Rattle.lapd_pair_laws.proofs.DrainsAfterRuns.{unmapped}
 use Rattle.lapd_pair_laws.proofs.TaggedMoves.{left_on_tags, safe_on_tags}
 use Rattle.lapd_pair_laws.proofs.Whole.{each_run_preserves}
 use Rattle.lapd_pair_laws.proofs.Worlds.{safe_by_invariant, exchanged}
 use Rattle.lapd_recovery_laws.specs.LoneLine.{IsLone, IsLoneLine, most_lone_moves, IsUpAnew, ComesUpAnew}
-use Rattle.lapd_recovery_laws.specs.Own.{Rests}
 use Rattle.lapd_recovery_laws.proofs.AfterOutage.{finds_few, returns_from}
 use Rattle.lapd_recovery_laws.proofs.DespiteLosses.{are_timely, own_or_losses}
 use Rattle.lapd_recovery_laws.proofs.KeepsWanted.{NoneReleased, IsUndisturbed, undisturbed_swapped}
 use Rattle.lapd_recovery_laws.proofs.OutageWorlds.{Facts, released_is_kept}
-use Rattle.lapd_recovery_laws.proofs.OwnOnTags.{are_own_by_tags, rests_by_tags, ran_on_tags, are_level_on_tags, agreed_on_tags}
+use Rattle.lapd_recovery_laws.proofs.OwnOnTags.{are_own_by_tags, are_level_on_tags, agreed_on_tags, at_rest_on_tags}
 use Rattle.lapd_recovery_laws.proofs.RunsEmpty.{in_queue, left_waits, after_runs}
 use Rattle.lapd_recovery_laws.proofs.SendsOn.{AreIgnored}
 use Rattle.lapd_recovery_laws.proofs.Situations.{Alone4, alone_4, Half, Coming}
@@ -147,13 +145,8 @@ comes_up_on_tags n200 w i preserved c = record {
       let few = c.few moves (are_own_by_tags moves w i preserved own) in
       omega (arith, most, few);
   up = λ moves own rests.
-      let now = run Whole moves w in
-      let same : run Tagged moves (tag_world w) ≡ tag_world now = ran_on_tags moves w i preserved in
-      let still : Rests Whole now =
-      rests_by_tags now (each_run_preserves moves w i)
-      (run_consistent Whole moves w preserved) (subst (λ v. Rests Tagged v) same rests) in
-      subst IsUpAnew (sym same)
-      (up_on_tags now (c.up moves (are_own_by_tags moves w i preserved own) still));
+      at_rest_on_tags (λ v. IsUpAnew v) (λ v. IsUpAnew v) up_on_tags moves w i preserved
+      (c.up moves (are_own_by_tags moves w i preserved own)) rests;
 }
 
 lone_by_tags : (n200 : ℕ) (x y : End) → IsLone n200 (tag_end x) (tag_end y) → IsLone n200 x y

@@ -31,7 +31,7 @@ use Rattle.lapd_recovery_laws.proofs.Lost.{at}
 use Rattle.lapd_recovery_laws.proofs.LostExpires.{stream}
 use Rattle.lapd_recovery_laws.proofs.LostMoves.{moved_user, moved_network, weight_in_8}
 use Rattle.lapd_recovery_laws.proofs.SendsOn.{AreIgnored}
-use Rattle.lapd_recovery_laws.proofs.Situations.{tries, twice, attempt_in, attempt, gone, again, Alone4, Alone5, Alone6, by_peer_5, EndInAnswer, Closed, Half, alone_4, alone_5, alone_6, asks_5, asks_6, accepted, crossed, refused, parting, closed, Coming, ComesOn}
+use Rattle.lapd_recovery_laws.proofs.Situations.{Asks6, Crossed, Refused, Parting, tries, twice, attempt_in, attempt, gone, again, Alone4, Alone5, Alone6, by_peer_5, EndInAnswer, Closed, Half, alone_4, alone_5, alone_6, asks_5, asks_6, accepted, crossed, refused, parting, closed, Coming, ComesOn}
 use Rattle.lapd_recovery_laws.proofs.Transitions.{literally, timers_in, attempt_is, state_of, by_user, by_network, open_peer_5, closed_peer_6, none_left, alone4_t200, alone5_t200, alone6_t200, alone4_t203, alone5_peer, alone6_peer, alone4_ignores, alone5_ignores, alone6_ignores}
 use Rattle.lapd_recovery_laws.proofs.Exchanges.{asks5_delivered, asks6_delivered, asks6_ignores, parting_moves, refused_moves, accepted_moves, crossed_moves}
 use Rattle.lapd_recovery_laws.proofs.OutageWorlds.{Facts, facts_swapped, empty_5, empty_6, empty_6_too, not_empty, first_of, second_of, neither_on, stream_unsent, no_t203_if_closed, user_ok}
@@ -244,11 +244,9 @@ module _ (N : ℕ) (some_retries : 1 ≤ N) where
     user_delivers to_user to_network (asks_5 s) f = none_to_user to_user to_network s.to_user
     user_delivers [] to_network (asks_6 s) f = none_to_user [] to_network refl
     user_delivers (frame ∷ rest) to_network (asks_6 s) f =
-        literally (ByUser Deliver) (frame ∷ rest) to_network (frame ∷ rest) (disc ∷ []) refl
-        s.to_network
-        (λ due ok. asks6_ignores N some_retries n
-        x y frame rest
-        (record { user = s.user; ignored = s.ignored; to_network = refl; most = s.most }))
+        literally (λ a b. Asks6 N n (at x y a b) → ByUser Deliver a b) (frame ∷ rest) to_network
+        (frame ∷ rest) (disc ∷ []) refl s.to_network
+        (λ s due ok. asks6_ignores N some_retries n x y frame rest s) s
     user_delivers to_user to_network (accepted s) f =
         literally (λ a b. Facts N (at x y a b) → ByUser Deliver a b) to_user to_network
         (ua ∷ s.frames) [] s.to_user s.to_network
@@ -265,43 +263,24 @@ module _ (N : ℕ) (some_retries : 1 ≤ N) where
         f.settled.user.timed (holds_after (ua ∷ s.frames) [] f.holds)
         (settled_after (ua ∷ s.frames) [] f.settled)) f
     user_delivers to_user to_network (crossed s) f =
-        literally (λ a b. Facts N (at x y a b) → ByUser Deliver a b) to_user to_network (ua ∷ []) []
-        s.to_user s.to_network
-        (λ f due ok. crossed_moves N some_retries n
-        x y (record {
-          user = s.user;
-          network = s.network;
-          to_user = refl;
-          to_network = refl;
-          most = s.most;
-        })
-        (λ is asked. empty_5 (at x y (ua ∷ []) []) f.holds is asked) (f.clear.user s.user)
-        f.settled.user.timed (settled_after (ua ∷ []) [] f.settled)) f
+        literally (λ a b. Crossed N n (at x y a b) → Facts N (at x y a b) → ByUser Deliver a b)
+        to_user to_network (ua ∷ []) [] s.to_user s.to_network
+        (λ s f due ok. crossed_moves N some_retries n
+        x y s (λ is asked. empty_5 (at x y (ua ∷ []) []) f.holds is asked) (f.clear.user s.user)
+        f.settled.user.timed (settled_after (ua ∷ []) [] f.settled)) s f
     user_delivers to_user to_network (refused s) f =
         let none =
         none_left y.end
         (empty_6_too (at x y to_user to_network) f.holds s.network) in
-        literally (ByUser Deliver) to_user to_network (dm ∷ []) [] s.to_user s.to_network
-        (λ due ok. refused_moves N some_retries n
-        x y (record {
-          user = s.user;
-          network = s.network;
-          to_user = refl;
-          to_network = refl;
-          most = s.most;
-        }) none)
+        literally (λ a b. Refused N n (at x y a b) → ByUser Deliver a b) to_user to_network
+        (dm ∷ []) [] s.to_user s.to_network
+        (λ s due ok. refused_moves N some_retries n x y s none) s
     user_delivers [] to_network (parting s) f = absurd s.to_user
     user_delivers (frame ∷ rest) to_network (parting s) f =
         let none = empty_6 (at x y (frame ∷ rest) to_network) f.holds s.user in
-        literally (ByUser Deliver) (frame ∷ rest) to_network (frame ∷ rest) [] refl s.to_network
-        (λ due ok. parting_moves N some_retries n
-        x y frame rest (record {
-          user = s.user;
-          network = s.network;
-          to_user = s.to_user;
-          to_network = refl;
-          most = s.most;
-        }) none)
+        literally (λ a b. Parting N n (at x y a b) → ByUser Deliver a b) (frame ∷ rest) to_network
+        (frame ∷ rest) [] refl s.to_network
+        (λ s due ok. parting_moves N some_retries n x y frame rest s none) s
     user_delivers to_user to_network (closed s) f = none_to_user to_user to_network s.to_user
 
     network_delivers : (to_user to_network : List Flight) → Half N n (at x y to_user to_network)
@@ -310,35 +289,17 @@ module _ (N : ℕ) (some_retries : 1 ≤ N) where
     network_delivers to_user [] (alone_5 s) f = none_to_network to_user [] refl
     network_delivers to_user [] (alone_6 s) f = none_to_network to_user [] refl
     network_delivers to_user (frame ∷ rest) (alone_4 s) f =
-        literally (ByNetwork Deliver) to_user (frame ∷ rest) [] (frame ∷ rest) s.to_user refl
-        (λ due ok. alone4_ignores N some_retries n
-        x y frame rest (record {
-          open_state = s.open_state;
-          network = s.network;
-          to_user = refl;
-          ignored = s.ignored;
-          most = s.most;
-        }))
+        literally (λ a b. Alone4 N n (at x y a b) → ByNetwork Deliver a b) to_user (frame ∷ rest)
+        [] (frame ∷ rest) s.to_user refl
+        (λ s due ok. alone4_ignores N some_retries n x y frame rest s) s
     network_delivers to_user (frame ∷ rest) (alone_5 s) f =
-        literally (ByNetwork Deliver) to_user (frame ∷ rest) [] (frame ∷ rest) s.to_user refl
-        (λ due ok. alone5_ignores N some_retries n
-        x y frame rest (record {
-          open_state = s.open_state;
-          network = s.network;
-          to_user = refl;
-          ignored = s.ignored;
-          most = s.most;
-        }))
+        literally (λ a b. Alone5 N n (at x y a b) → ByNetwork Deliver a b) to_user (frame ∷ rest)
+        [] (frame ∷ rest) s.to_user refl
+        (λ s due ok. alone5_ignores N some_retries n x y frame rest s) s
     network_delivers to_user (frame ∷ rest) (alone_6 s) f =
-        literally (ByNetwork Deliver) to_user (frame ∷ rest) [] (frame ∷ rest) s.to_user refl
-        (λ due ok. alone6_ignores N some_retries n
-        x y frame rest (record {
-          open_state = s.open_state;
-          network = s.network;
-          to_user = refl;
-          ignored = s.ignored;
-          most = s.most;
-        }))
+        literally (λ a b. Alone6 N n (at x y a b) → ByNetwork Deliver a b) to_user (frame ∷ rest)
+        [] (frame ∷ rest) s.to_user refl
+        (λ s due ok. alone6_ignores N some_retries n x y frame rest s) s
     network_delivers to_user to_network (asks_5 s) f =
         literally (λ a b. Facts N (at x y a b) → ByNetwork Deliver a b) to_user to_network []
         (sabme ∷ []) s.to_user s.to_network

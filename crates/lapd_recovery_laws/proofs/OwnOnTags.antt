@@ -13,7 +13,7 @@ use Rattle.lapd_pair_laws.specs.Invariant.{IsInvariant}
 use Rattle.lapd_pair_laws.proofs.Consistency.{run_consistent}
 use Rattle.lapd_pair_laws.proofs.Reached.{near_moves}
 use Rattle.lapd_pair_laws.proofs.TaggedMoves.{run_on_tags, left_on_tags, after_on_tags}
-use Rattle.lapd_pair_laws.proofs.Whole.{each_move_preserves}
+use Rattle.lapd_pair_laws.proofs.Whole.{each_move_preserves, each_run_preserves}
 use Rattle.lapd_pair_laws.proofs.DrainsAfterRuns.{admitted_on_tags, move_tagged}
 use Rattle.lapd_recovery_laws.specs.Own.{is_empty, is_due, IsOwn, AreOwn, Rests}
 use Rattle.lapd_recovery_laws.specs.Agreed.{IsLevel, AreLevel, AreReleased, AreAgreed}
@@ -73,6 +73,18 @@ rests_by_tags w i preserved rests = λ move own. rests move (own_on_tags move w 
 pub ran_on_tags : (moves : List Move) (w : World) → IsInvariant w → IsConsistentWorld Whole w
     → run Tagged moves (tag_world w) ≡ tag_world (run Whole moves w)
 ran_on_tags moves w i preserved = run_on_tags moves w preserved (near_moves moves w i preserved)
+
+-- what holds where no own move is possible, if it carries over
+pub at_rest_on_tags : (P Q : World → Type 0) → ((v : World) → P v → Q (tag_world v))
+    → (moves : List Move) (w : World) → IsInvariant w → IsConsistentWorld Whole w
+    → (Rests Whole (run Whole moves w) → P (run Whole moves w))
+    → Rests Tagged (run Tagged moves (tag_world w)) → Q (run Tagged moves (tag_world w))
+at_rest_on_tags P Q on_tags moves w i preserved whole rests =
+    let now = run Whole moves w in
+    let same : run Tagged moves (tag_world w) ≡ tag_world now = ran_on_tags moves w i preserved in
+    subst Q (sym same)
+    (on_tags now (whole (rests_by_tags now (each_run_preserves moves w i)
+    (run_consistent Whole moves w preserved) (subst (λ v. Rests Tagged v) same rests))))
 
 -- ---- Worlds.
 

@@ -45,7 +45,7 @@ use Rattle.lapd_recovery_laws.proofs.Renewals.{request_in, under_way, request, o
 use Rattle.lapd_recovery_laws.proofs.StaysOpen.{AwaitsNone, awaits_none}
 use Rattle.lapd_recovery_laws.proofs.TimersBeside.{t200_beside, t203_beside}
 use Rattle.lapd_recovery_laws.proofs.TimersWanted.{t200_keeps, t203_keeps}
-use Rattle.lapd_recovery_laws.proofs.Transitions.{timers_in}
+use Rattle.lapd_recovery_laws.proofs.Transitions.{timers_in, in_7_if_t203}
 
 -- in state 8 or 5, and neither a final nor the response to a request is in transit
 pub record IsRejoining (x : End) (back : List Kind) : Type 0 where
@@ -361,21 +361,7 @@ module _ (N : ℕ) (x y : Station) (to_user to_network : List Flight)
     (f : Facts N (at x y to_user to_network))
     (ok : is_ok (acts Whole side.User Expire203 (seeing x to_user to_network)) ≡ true) where
   pub in_7 : x.end.state ≡ MultipleFrameEstablished
-  in_7 = by_state x.end.state refl
-    where
-      runs : x.end.t203 ≡ true
-      runs = t203_runs (seeing x to_user to_network) ok
-
-      by_state : (state : State) → x.end.state ≡ state → x.end.state ≡ MultipleFrameEstablished
-      by_state MultipleFrameEstablished is = is
-      by_state TeiAssigned is =
-          let off = (timers_in TeiAssigned x.end f.have.user is).1 in let on = runs in cc
-      by_state AwaitingEstablishment is =
-          let off = (timers_in AwaitingEstablishment x.end f.have.user is).1 in let on = runs in cc
-      by_state AwaitingRelease is =
-          let off = (timers_in AwaitingRelease x.end f.have.user is).1 in let on = runs in cc
-      by_state TimerRecovery is =
-          let off = (timers_in TimerRecovery x.end f.have.user is).1 in let on = runs in cc
+  in_7 = in_7_if_t203 x.end f.have.user (t203_runs (seeing x to_user to_network) ok)
 
   -- the peer is not in state 4, or nothing is in transit to x
   pub rejoins_203 : request y.end (kinds to_user) (kinds to_network) ≤ 2

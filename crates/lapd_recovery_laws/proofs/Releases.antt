@@ -4,26 +4,25 @@ use Rattle.lapd_frame.specs.declared.Side.{Side}
 use Rattle.lapd_frame.specs.declared.Side.TheVariants as side
 use Rattle.lapd_frame.specs.declared.Role.TheVariants.{Command, Answer}
 use Rattle.lapd_frame.specs.declared.Control.TheVariants.{Dm, Disc, Ua}
-use Rattle.lapd_mod128.specs.Counting.{Whole}
+use Rattle.lapd_mod128.specs.Counting.{Whole, Reading, Tagged}
 use Rattle.lapd_link_definition.specs.declared.state.State.{State}
 use Rattle.lapd_link_definition.specs.declared.state.State.TheVariants.{TeiAssigned, AwaitingRelease}
 use Rattle.lapd_link_definition.specs.EndOfStep.{is_established}
 use Rattle.lapd_link_definition.specs.End.{End}
 use Rattle.lapd_link_definition.specs.RunningTimers.{AreTimersOf, HasTimersOfState}
-use Rattle.lapd_pair_laws.specs.Conjuncts.{IsEmpty, IsConsistentSender}
-use Rattle.lapd_pair_laws.specs.Consistent.{AreSettled, IsConsistentWorld}
+use Rattle.lapd_pair_laws.specs.Consistent.{IsConsistentWorld}
 use Rattle.lapd_pair_laws.specs.Invariant.{IsInvariant}
 use Rattle.lapd_pair_laws.specs.Line.{Flight, without_info}
 use Rattle.lapd_pair_laws.specs.Move.{PairEvent, Deliver, Expire200, Expire203, Move, Station, acts}
-use Rattle.lapd_pair_laws.specs.Parties.{Party, party}
-use Rattle.lapd_pair_laws.specs.World.{World, swapped, view_of, with_view, world_after, happens, run, left_of}
+use Rattle.lapd_pair_laws.specs.Parties.{party}
+use Rattle.lapd_pair_laws.specs.World.{World, swapped, view_of, with_view, world_after, happens, run, new_world}
 use Rattle.lapd_pair_laws.proofs.Consistency.{run_consistent}
-use Rattle.lapd_pair_laws.proofs.Settled.{left_settled}
 use Rattle.lapd_pair_laws.proofs.Settles.{IsStill}
 use Rattle.lapd_pair_laws.proofs.Stepping.{user_move, network_move}
 use Rattle.lapd_pair_laws.proofs.Swaps.{network_alike}
 use Rattle.lapd_pair_laws.proofs.Whole.{each_run_preserves}
 use Rattle.lapd_pair_laws.proofs.Worlds.{left_by}
+use Rattle.lapd_recovery_laws.proofs.AfterOutage.{empty_in_4}
 use Rattle.lapd_recovery_laws.specs.Agreed.{AreReleased}
 use Rattle.lapd_recovery_laws.specs.Own.{are_apart, is_line_empty, is_due, AreOwn}
 use Rattle.lapd_recovery_laws.specs.ReleasedLine.{IsReleasing, IsReleasedLine, IsDown, ComesDown}
@@ -35,6 +34,12 @@ use Rattle.lapd_recovery_laws.proofs.Lost.{at}
 use Rattle.lapd_recovery_laws.proofs.LostMoves.{moved_user}
 use Rattle.lapd_recovery_laws.proofs.TimersOfRuns.{timers_after_move}
 use Rattle.lapd_recovery_laws.proofs.Transitions.{literally}
+use Rattle.lapd_link_definition.specs.Parameters.{Parameters}
+use Rattle.lapd_link_definition.specs.Tagging.{tag_end}
+use Rattle.lapd_pair_laws.specs.Tagged.{tag_world}
+use Rattle.lapd_pair_laws.proofs.DrainsAfterRuns.{unmapped}
+use Rattle.lapd_recovery_laws.proofs.OwnOnTags.{are_own_by_tags, agreed_on_tags, at_rest_on_tags}
+use Rattle.lapd_recovery_laws.proofs.RunsEmpty as runs
 
 -- ---- Situations.
 
@@ -445,17 +450,6 @@ released_so : (e : End) → HasTimersOfState e → e.t200 ≡ false → IsReleas
 released_so e has off (inl is) = is
 released_so e has off (inr is) = let on = on_in_6 e has is in cc
 
-pub empty_in_4 : (s : Station) (x : Party) → x.sends.given ≡ s.end.given
-    → x.sends.first ≡ s.end.first → x.sends.passed ≡ s.history.passed → x.state ≡ TeiAssigned
-    → IsConsistentSender x.state x.asked x.leaving x.sends → x.sends.passed ≡ x.sends.first
-    → AreSettled s.history → left_of s ≡ 0
-empty_in_4 s x given first gone is preserved passed settled =
-    let none : IsEmpty x.sends =
-    subst (λ st. IsConsistentSender st x.asked x.leaving x.sends) is preserved in
-    let all : x.sends.first ≡ length x.sends.given = none.first in
-    let same : length x.sends.given ≡ length s.end.given = ap length given in
-    left_settled s settled ∙ omega (arith, all, same, passed, gone)
-
 down_at : (x y : Station) (n : ℕ) → Still n (at x y [] []) → IsInvariant (at x y [] [])
     → IsConsistentWorld Whole (at x y [] []) → HaveTimersOfStates (at x y [] [])
     → x.end.t200 ≡ false → y.end.t200 ≡ false → IsDown (at x y [] [])
@@ -515,3 +509,42 @@ released_line_comes_down w i preserved have l = record {
       (at_rest (6 - length moves) now reached.releasing still) (each_run_preserves moves w i)
       (run_consistent Whole moves w preserved) reached.have still;
 }
+
+-- ---- After every run, on whole numbers and on tags.
+
+down_on_tags : (w : World) → IsDown w → IsDown (tag_world w)
+down_on_tags w d = record {
+  agreed = agreed_on_tags w d.agreed;
+  released = record { mine = d.released.mine; its = d.released.its };
+}
+
+comes_down_on_tags : (w : World) → IsInvariant w → IsConsistentWorld Whole w → ComesDown Whole w
+    → ComesDown Tagged (tag_world w)
+comes_down_on_tags w i preserved c = record {
+  few = λ moves own. c.few moves (are_own_by_tags moves w i preserved own);
+  down = λ moves own rests.
+      at_rest_on_tags (λ v. IsDown v) (λ v. IsDown v) down_on_tags moves w i preserved
+      (c.down moves (are_own_by_tags moves w i preserved own)) rests;
+}
+
+releasing_by_tags : (e : End) → IsReleasing (tag_end e) → IsReleasing e
+releasing_by_tags e (inl is) = inl is
+releasing_by_tags e (inr is) = inr is
+
+released_line_by_tags : (w : World) → IsReleasedLine (tag_world w) → IsReleasedLine w
+released_line_by_tags w l = record {
+  user = releasing_by_tags w.user.end l.user;
+  network = releasing_by_tags w.network.end l.network;
+  to_user = unmapped w.to_user l.to_user;
+  to_network = unmapped w.to_network l.to_network;
+}
+
+pub every_released_line_comes_down : (r : Reading) (user network : Parameters) → user.k ≤ 127
+    → network.k ≤ 127 → (moves : List Move) → IsReleasedLine (run r moves (new_world user network))
+    → ComesDown r (run r moves (new_world user network))
+every_released_line_comes_down r user network u n moves l =
+    runs.by_readings user network u n moves (λ w. IsReleasedLine w) (λ r w. ComesDown r w)
+    released_line_by_tags comes_down_on_tags
+    (λ l. released_line_comes_down (run Whole moves (new_world user network))
+    (runs.holds user network u n moves) (runs.preserved user network u n moves)
+    (runs.have_timers user network u n moves) l) r l

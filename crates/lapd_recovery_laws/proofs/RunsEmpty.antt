@@ -32,6 +32,7 @@ use Rattle.lapd_pair_laws.proofs.TaggedMoves.{left_on_tags}
 use Rattle.lapd_pair_laws.proofs.Whole.{each_move_preserves, each_run_preserves}
 use Rattle.lapd_pair_laws.proofs.Worlds.{new_holds, left_by}
 use Rattle.lapd_recovery_laws.specs.Deliveries.{AreDeliveries, NothingArrives, frames, most_deliveries, RunsEmpty}
+use Rattle.lapd_recovery_laws.specs.Timers.{HaveTimersOfStates}
 use Rattle.lapd_recovery_laws.specs.Own.{IsFree, is_line_empty}
 use Rattle.lapd_recovery_laws.proofs.AfterOutage.{facts_after}
 use Rattle.lapd_recovery_laws.proofs.AnyOrder.{none_there, none_there_too}
@@ -334,7 +335,7 @@ frames_on_tags w = let a = same w.to_user in let b = same w.to_network in omega 
     same (f ∷ fs) = let rest = same fs in omega (arith, rest)
 
 module _ (user network : Parameters) (user_small : user.k ≤ 127) (network_small : network.k ≤ 127)
-    (user_some : 1 ≤ user.k) (network_some : 1 ≤ network.k) (moves : List Move) where
+    (moves : List Move) where
   abbrev start : World
   start = new_world user network
 
@@ -349,12 +350,15 @@ module _ (user network : Parameters) (user_small : user.k ≤ 127) (network_smal
       run_consistent Whole moves start
       (new_world_consistent Whole user network user_small network_small)
 
-  pub facts : (N : ℕ) → reached.user.end.parameters.n200 ≤ N
+  pub have_timers : HaveTimersOfStates reached
+  have_timers = timers_after_run moves start (new_has_timers user network)
+
+  pub facts : 1 ≤ user.k → 1 ≤ network.k → (N : ℕ) → reached.user.end.parameters.n200 ≤ N
       → reached.network.end.parameters.n200 ≤ N → Facts N reached
-  facts N few_user few_network = record {
+  facts user_some network_some N few_user few_network = record {
     holds = holds;
     settled = run_settles moves start (new_settles user network user_some network_some);
-    have = timers_after_run moves start (new_has_timers user network);
+    have = have_timers;
     clear = clear_after_run moves start (new_is_clear user network);
     few_user = few_user;
     few_network = few_network;
@@ -386,9 +390,9 @@ pub after_runs : (Premise : World → Type 0) (Law : Reading → World → Type 
     → 1 ≤ network.k → (moves : List Move) → Premise (run r moves (new_world user network))
     → Law r (run r moves (new_world user network))
 after_runs Premise Law whole by_tags on_tags r user network u n us ns moves p =
-    by_readings user network u n us ns moves Premise Law by_tags on_tags
-    (λ q. whole (run Whole moves (new_world user network)) (facts user network u n us ns moves)
-    (preserved user network u n us ns moves) q) r p
+    by_readings user network u n moves Premise Law by_tags on_tags
+    (λ q. whole (run Whole moves (new_world user network)) (facts user network u n moves us ns)
+    (preserved user network u n moves) q) r p
 
 runs_empty : (w : World)
     → ((N : ℕ) → w.user.end.parameters.n200 ≤ N → w.network.end.parameters.n200 ≤ N → Facts N w)

@@ -1,6 +1,7 @@
 -- T200 or T203 of a side expires beside frames in transit: the deliveries that the line needs grow
 -- by the messages that wait.
-use Rattle.std.proofs.Common.{◌≡◌, ◌⊎◌, inl, inr, ℕ, ◌+◌, ◌-◌, ◌*◌, ◌≤◌, if◌then◌else◌, nat_lt, Bool, true, false, List, [], ◌∷◌, ◌++◌, append_assoc, append-nil, Option, Some, None, Result, Err, is_ok, refl, sym, ap, subst, ◌∙◌, arith}
+use Rattle.std.proofs.Common.{◌≡◌, ◌⊎◌, inl, inr, ℕ, ◌+◌, ◌-◌, ◌*◌, ◌≤◌, if◌then◌else◌, nat_lt, Bool, true, false, List, [], ◌∷◌, ◌++◌, append_assoc, append-nil, Option, Some, None, Result, Err, is_ok, refl, sym, ap, subst, ◌∙◌, arith, length, length-append}
+use Rattle.lapd_timers.specs.declared.timer.Timer.{Timer}
 use Rattle.lapd_timers.specs.declared.timer.Timer.TheVariants.{T200, T203}
 use Rattle.lapd_frame.specs.declared.Side.{Side}
 use Rattle.lapd_frame.specs.declared.Side.TheVariants as side
@@ -32,6 +33,7 @@ use Rattle.lapd_pair_laws.proofs.Stepping.{user_move}
 use Rattle.lapd_pair_laws.proofs.Swaps.{network_alike}
 use Rattle.lapd_pair_laws.proofs.Whole.{each_move_preserves}
 use Rattle.lapd_pair_laws.proofs.Worlds.{left_by, exchanged}
+use Rattle.lapd_recovery_laws.specs.Deliveries.{frames}
 use Rattle.lapd_recovery_laws.specs.EarlyTimers.{is_message, messages_in, if_in_8, overtaken_by}
 use Rattle.lapd_recovery_laws.specs.Losses.{one_if}
 use Rattle.lapd_recovery_laws.specs.Own.{IsFree}
@@ -46,7 +48,7 @@ use Rattle.lapd_recovery_laws.proofs.Lost.{at}
 use Rattle.lapd_recovery_laws.proofs.LostMoves.{moved_user}
 use Rattle.lapd_recovery_laws.proofs.Proceeding.{weigh, weight_of, plain_of, extra, extra_few, extra_open, extra_shut, extra_more, load, load_in, load_least, missing, fresh_few, Share, flowing_turned}
 use Rattle.lapd_recovery_laws.proofs.RunsEmpty.{Flow, missing_few, in_queue, side_few}
-use Rattle.lapd_recovery_laws.proofs.Transitions.{timers_in}
+use Rattle.lapd_recovery_laws.proofs.Transitions.{timers_in, in_7_if_t203}
 
 -- ---- The same step, whichever frames are in transit.
 
@@ -153,35 +155,12 @@ module _ (x : Station) (incoming outgoing : List Flight) where
   unfolding acts expires_203
   t203_taken v on = rw on refl
 
-  t200_stepped : IsBeside incoming outgoing (left_by alone (takes Whole (Expiry T200) [] alone))
-      (left_by full (takes Whole (Expiry T200) [] full))
+  stepped : (timer : Timer)
+      → IsBeside incoming outgoing (left_by alone (takes Whole (Expiry timer) [] alone))
+      (left_by full (takes Whole (Expiry timer) [] full))
   unfolding takes step view_after story_after
-  t200_stepped =
-      let s = end_step Whole (row Whole x.end.state (Expiry T200) (begin x.end)) in
-      let o : Occasion =
-      record {
-        given = s.end.given;
-        establishment = s.end.establishments;
-        octets = [];
-        place = 0;
-      } in
-      let h = with_beginning x.end.establishments s.end.establishments x.history in
-      record {
-        end = refl;
-        incoming_is = refl;
-        outgoing_is =
-            subst (λ l. (after_outputs o s.outs (record { line = l; history = h })).line
-            ≡ outgoing ++ (after_outputs o s.outs (record { line = []; history = h })).line)
-            (append-nil outgoing) (outputs_behind o outgoing s.outs h []);
-        dropped =
-            ap (λ (k : History). k.dropped) (same_history o s.outs h outgoing []);
-      }
-
-  t203_stepped : IsBeside incoming outgoing (left_by alone (takes Whole (Expiry T203) [] alone))
-      (left_by full (takes Whole (Expiry T203) [] full))
-  unfolding takes step view_after story_after
-  t203_stepped =
-      let s = end_step Whole (row Whole x.end.state (Expiry T203) (begin x.end)) in
+  stepped timer =
+      let s = end_step Whole (row Whole x.end.state (Expiry timer) (begin x.end)) in
       let o : Occasion =
       record {
         given = s.end.given;
@@ -210,7 +189,7 @@ module _ (x : Station) (incoming outgoing : List Flight) where
       subst F (sym (t200_alone on))
       (subst (λ r. IsBeside incoming outgoing
       (left_by alone (takes Whole (Expiry T200) [] alone)) (left_by full r))
-      (sym (t200_taken ok)) t200_stepped)
+      (sym (t200_taken ok)) (stepped T200))
 
   pub t203_beside : is_ok (acts Whole side.User Expire203 full) ≡ true → Beside Expire203
   t203_beside ok =
@@ -221,7 +200,7 @@ module _ (x : Station) (incoming outgoing : List Flight) where
       subst F (sym (t203_taken alone on))
       (subst (λ r. IsBeside incoming outgoing
       (left_by alone (takes Whole (Expiry T203) [] alone)) (left_by full r))
-      (sym (t203_taken full on)) t203_stepped)
+      (sym (t203_taken full on)) (stepped T203))
 
 -- ---- The frame that is sent.
 
@@ -246,6 +225,7 @@ polling k polls = cc
 record IsMild (x : Station) (v : View) : Type 0 where
   fewer : waiting v.station.end ≤ waiting x.end
   free : IsFree x.end → IsFree v.station.end
+  one : length v.outgoing ≤ 1
   light : weigh (kinds v.outgoing) ≤ 2
   passed : (y : End) (ks : List Kind) → extra y (ks ++ kinds v.outgoing) ≤ extra y ks
   heard : (ks : List Kind) → extra v.station.end ks ≤ extra x.end ks
@@ -268,6 +248,7 @@ module _ (x : Station) (v : View) where
       record {
         fewer = k.fewer;
         free = k.free;
+        one = let len = ap (λ fs. length fs) sent in omega (arith, len);
         light = subst (λ fs. weigh (kinds fs) ≤ 2) (sym sent) (omega (arith, light));
         passed = λ y ks. subst (λ fs. extra y (ks ++ kinds fs) ≤ extra y ks) (sym sent)
             (let same = extra_more y ks (kind f) l.other l.plain in omega (arith, same));
@@ -279,6 +260,7 @@ module _ (x : Station) (v : View) where
   with_none sent k = record {
     fewer = k.fewer;
     free = k.free;
+    one = let len = ap (λ fs. length fs) sent in omega (arith, len);
     light = subst (λ fs. weigh (kinds fs) ≤ 2) (sym sent) (omega arith);
     passed = λ y ks. subst (λ fs. extra y (ks ++ kinds fs) ≤ extra y ks) (sym sent)
         (let same = ap (λ l. extra y l) (append-nil ks) in omega (arith, same));
@@ -386,16 +368,9 @@ module _ (x : Station) where
       by_state TimerRecovery is = in_8 is (nat_lt x.end.rc x.end.parameters.n200) refl
 
   t203_mild : HasTimersOfState x.end → x.end.t203 ≡ true → IsMild x (by Expire203)
-  t203_mild has on = by_state x.end.state refl
-    where
-      by_state : (state : State) → x.end.state ≡ state → IsMild x (by Expire203)
-      by_state TeiAssigned is = let off = (timers_in TeiAssigned x.end has is).1 in cc
-      by_state AwaitingEstablishment is =
-          let off = (timers_in AwaitingEstablishment x.end has is).1 in cc
-      by_state AwaitingRelease is = let off = (timers_in AwaitingRelease x.end has is).1 in cc
-      by_state MultipleFrameEstablished is =
-          from_polls x (by Expire203) 0 (polls_by_t203 x is on) (ap is_7_or_8 is)
-      by_state TimerRecovery is = let off = (timers_in TimerRecovery x.end has is).1 in cc
+  t203_mild has on =
+      let is = in_7_if_t203 x.end has on in
+      from_polls x (by Expire203) 0 (polls_by_t203 x is on) (ap is_7_or_8 is)
 
 -- ---- The moves that a side accounts for.
 
@@ -483,6 +458,7 @@ messages_plain (f ∷ fs) =
 -- n bounds the deliveries that the line needs after the expiry
 pub record ExpiresBeside (n : ℕ) (w now : World) : Type 0 where
   pub flow : Flow n now
+  pub one_more : frames now ≤ frames w + 1
   pub user_fewer : waiting now.user.end ≤ waiting w.user.end
   pub network_fewer : waiting now.network.end ≤ waiting w.network.end
   pub user_free : IsFree w.user.end → IsFree now.user.end
@@ -543,6 +519,12 @@ module _ (m late : ℕ) (x y : Station) (to_user to_network : List Flight)
             its = inl (omega arith);
             most = omega (arith, mine, its, sum, same, light, all, fewer);
           };
+          one_more =
+              let sent = k.one in
+              let stays = ap (λ fs. length fs) b.incoming_is in
+              let joined =
+              ap (λ fs. length fs) b.outgoing_is ∙ length-append to_network quiet.outgoing in
+              omega (arith, sent, stays, joined);
           user_fewer = fewer;
           network_fewer = omega arith;
           user_free = λ free. subst IsFree (sym b.end) (k.free free);
@@ -590,26 +572,13 @@ module _ (m late : ℕ) (x y : Station) (to_user to_network : List Flight)
         subst (λ u. ExpiresBeside most w u) (sym (moved_user event w))
         (in_view v (by x event) now b k few)
 
-    pub user_expires_200 : HasTimersOfState x.end → Few (by x Expire200)
-        → is_ok (acts Whole side.User Expire200 (seeing x to_user to_network)) ≡ true
-        → ExpiresBeside most w (after side.User Expire200 w)
-    user_expires_200 has few ok =
-        by_event Expire200 (t200_beside x to_user to_network ok)
-        (t200_mild x has (t200_runs (seeing x to_user to_network) ok)) few
-
-    pub user_expires_203 : HasTimersOfState x.end → Few (by x Expire203)
-        → is_ok (acts Whole side.User Expire203 (seeing x to_user to_network)) ≡ true
-        → ExpiresBeside most w (after side.User Expire203 w)
-    user_expires_203 has few ok =
-        by_event Expire203 (t203_beside x to_user to_network ok)
-        (t203_mild x has (t203_runs (seeing x to_user to_network) ok)) few
-
 -- ---- Either side.
 
 expires_swapped : (n : ℕ) (w now : World) → ExpiresBeside n (swapped w) now
     → ExpiresBeside n w (swapped now)
 expires_swapped n w now e = record {
   flow = flowing_turned e.flow;
+  one_more = let one = e.one_more in omega (arith, one);
   user_fewer = e.network_fewer;
   network_fewer = e.user_fewer;
   user_free = e.network_free;
@@ -626,30 +595,44 @@ in_8_few : (state : State) (n : ℕ) → state ≡ TimerRecovery → n ≤ if_in
 in_8_few TimerRecovery n is = omega arith
 in_8_few state n is = cc
 
-by_user_200 : (m : ℕ) (x y : Station) (to_user to_network : List Flight)
-    → IsInvariant (at x y to_user to_network) → HaveTimersOfStates (at x y to_user to_network)
-    → Flow m (at x y to_user to_network)
-    → is_ok (acts Whole side.User Expire200 (seeing x to_user to_network)) ≡ true
-    → ExpiresBeside
-    (most_beside m side.User Expire200 (at x y to_user to_network))
-    (at x y to_user to_network)
-    (after side.User Expire200 (at x y to_user to_network))
-by_user_200 m x y to_user to_network i have flow ok =
-    user_expires_200 m (if_in_8 x.end.state (messages_in to_network)) x y to_user to_network i flow
-    have.user (λ shut is. in_8_few x.end.state (messages_in to_network) is) ok
+-- an expiry, and the same on an empty line
+record Expiring (event : PairEvent) (x : Station) (incoming outgoing : List Flight) : Type 0 where
+  beside : Beside x incoming outgoing event
+  mild : IsMild x (by x event)
+  few : x.end.state ≡ TimerRecovery
+      → messages_in outgoing ≤ overtaken_by event (seeing x incoming outgoing)
 
-by_user_203 : (m : ℕ) (x y : Station) (to_user to_network : List Flight)
-    → IsInvariant (at x y to_user to_network) → HaveTimersOfStates (at x y to_user to_network)
-    → Flow m (at x y to_user to_network)
-    → is_ok (acts Whole side.User Expire203 (seeing x to_user to_network)) ≡ true
-    → ExpiresBeside
-    (most_beside m side.User Expire203 (at x y to_user to_network))
-    (at x y to_user to_network)
-    (after side.User Expire203 (at x y to_user to_network))
-by_user_203 m x y to_user to_network i have flow ok =
-    user_expires_203 m 0 x y to_user to_network i flow have.user
-    (λ shut is. let off = (timers_in TimerRecovery x.end have.user is).1 in
-    let on = t203_runs (seeing x to_user to_network) ok in cc) ok
+abbrev IsTimer : PairEvent → Type 0
+IsTimer event =
+    (x : Station) (incoming outgoing : List Flight) → HasTimersOfState x.end
+    → is_ok (acts Whole side.User event (seeing x incoming outgoing)) ≡ true
+    → Expiring event x incoming outgoing
+
+t200_timer : IsTimer Expire200
+t200_timer x incoming outgoing has ok = record {
+  beside = t200_beside x incoming outgoing ok;
+  mild = t200_mild x has (t200_runs (seeing x incoming outgoing) ok);
+  few = λ is. in_8_few x.end.state (messages_in outgoing) is;
+}
+
+t203_timer : IsTimer Expire203
+t203_timer x incoming outgoing has ok = record {
+  beside = t203_beside x incoming outgoing ok;
+  mild = t203_mild x has (t203_runs (seeing x incoming outgoing) ok);
+  few = λ is. absurd (let off = (timers_in TimerRecovery x.end has is).1 in
+      let on = t203_runs (seeing x incoming outgoing) ok in cc);
+}
+
+by_user : (event : PairEvent) → IsTimer event → (m : ℕ) (x y : Station)
+    (to_user to_network : List Flight) → IsInvariant (at x y to_user to_network)
+    → HaveTimersOfStates (at x y to_user to_network) → Flow m (at x y to_user to_network)
+    → is_ok (acts Whole side.User event (seeing x to_user to_network)) ≡ true
+    → ExpiresBeside (most_beside m side.User event (at x y to_user to_network))
+    (at x y to_user to_network) (after side.User event (at x y to_user to_network))
+by_user event timer m x y to_user to_network i have flow ok =
+    let e = timer x to_user to_network have.user ok in
+    by_event m (overtaken_by event (seeing x to_user to_network)) x y to_user to_network i flow event
+    e.beside e.mild (λ shut is. e.few is)
 
 module _ (m : ℕ) (x y : Station) (to_user to_network : List Flight)
     (i : IsInvariant (at x y to_user to_network))
@@ -676,23 +659,24 @@ module _ (m : ℕ) (x y : Station) (to_user to_network : List Flight)
   have_swapped : HaveTimersOfStates (swapped world)
   have_swapped = record { user = have.network; network = have.user }
 
+  early : (event : PairEvent) → IsTimer event → (s : Side)
+      → is_ok (happens Whole (record { side = s; event = event }) world) ≡ true
+      → ExpiresBeside (most_beside m s event world) world (after s event world)
+  early event timer side.User ok =
+      by_user event timer m x y to_user to_network i have flow (ok_of_side side.User event world ok)
+  early event timer side.Network ok =
+      by_network event (by_user event timer m y x to_network to_user (exchanged world i) have_swapped
+      (flowing_turned flow) (ok_of_side side.Network event world ok))
+
   pub t200_early : (s : Side)
       → is_ok (happens Whole (record { side = s; event = Expire200 }) world) ≡ true
       → ExpiresBeside (most_beside m s Expire200 world) world (after s Expire200 world)
-  t200_early side.User ok =
-      by_user_200 m x y to_user to_network i have flow (ok_of_side side.User Expire200 world ok)
-  t200_early side.Network ok =
-      by_network Expire200 (by_user_200 m y x to_network to_user (exchanged world i) have_swapped
-      (flowing_turned flow) (ok_of_side side.Network Expire200 world ok))
+  t200_early s ok = early Expire200 t200_timer s ok
 
   pub t203_early : (s : Side)
       → is_ok (happens Whole (record { side = s; event = Expire203 }) world) ≡ true
       → ExpiresBeside (most_beside m s Expire203 world) world (after s Expire203 world)
-  t203_early side.User ok =
-      by_user_203 m x y to_user to_network i have flow (ok_of_side side.User Expire203 world ok)
-  t203_early side.Network ok =
-      by_network Expire203 (by_user_203 m y x to_network to_user (exchanged world i) have_swapped
-      (flowing_turned flow) (ok_of_side side.Network Expire203 world ok))
+  t203_early s ok = early Expire203 t203_timer s ok
 
 -- ---- The end that expires stays in states 7 and 8: it overtakes none.
 
@@ -714,33 +698,20 @@ open_most m w now e =
     (let same : m + 3 * waiting w.user.end + 3 * waiting w.network.end + 6 + 0
     ≡ m + 3 * waiting w.user.end + 3 * waiting w.network.end + 6 = omega arith in same) e
 
-user_open_200 : (m : ℕ) (w : World) → IsInvariant w → HasTimersOfState w.user.end → Flow m w
-    → is_7_or_8 (after side.User Expire200 w).user.end.state ≡ true
-    → is_ok (acts Whole side.User Expire200 (view_of side.User w)) ≡ true
+user_open : (event : PairEvent) → IsTimer event → (m : ℕ) (w : World) → IsInvariant w
+    → HasTimersOfState w.user.end → Flow m w
+    → is_7_or_8 (after side.User event w).user.end.state ≡ true
+    → is_ok (acts Whole side.User event (view_of side.User w)) ≡ true
     → ExpiresBeside (m + 3 * waiting w.user.end + 3 * waiting w.network.end + 6) w
-    (after side.User Expire200 w)
-user_open_200 m w i has flow opened ok =
+    (after side.User event w)
+user_open event timer m w i has flow opened ok =
+    let e = timer w.user w.to_user w.to_network has ok in
     let now : is_7_or_8 (left_by (view_of side.User w)
-    (acts Whole side.User Expire200 (view_of side.User w))).station.end.state ≡ true =
-    subst (λ u. is_7_or_8 u.user.end.state ≡ true) (moved_user Expire200 w) opened in
-    open_most m w (after side.User Expire200 w)
-    (user_expires_200 m 0 w.user w.network w.to_user w.to_network i flow has
-    (λ shut is. absurd (stays_open w.user w.to_user w.to_network Expire200
-    (t200_beside w.user w.to_user w.to_network ok) now shut)) ok)
-
-user_open_203 : (m : ℕ) (w : World) → IsInvariant w → HasTimersOfState w.user.end → Flow m w
-    → is_7_or_8 (after side.User Expire203 w).user.end.state ≡ true
-    → is_ok (acts Whole side.User Expire203 (view_of side.User w)) ≡ true
-    → ExpiresBeside (m + 3 * waiting w.user.end + 3 * waiting w.network.end + 6) w
-    (after side.User Expire203 w)
-user_open_203 m w i has flow opened ok =
-    let now : is_7_or_8 (left_by (view_of side.User w)
-    (acts Whole side.User Expire203 (view_of side.User w))).station.end.state ≡ true =
-    subst (λ u. is_7_or_8 u.user.end.state ≡ true) (moved_user Expire203 w) opened in
-    open_most m w (after side.User Expire203 w)
-    (user_expires_203 m 0 w.user w.network w.to_user w.to_network i flow has
-    (λ shut is. absurd (stays_open w.user w.to_user w.to_network Expire203
-    (t203_beside w.user w.to_user w.to_network ok) now shut)) ok)
+    (acts Whole side.User event (view_of side.User w))).station.end.state ≡ true =
+    subst (λ u. is_7_or_8 u.user.end.state ≡ true) (moved_user event w) opened in
+    open_most m w (after side.User event w)
+    (by_event m 0 w.user w.network w.to_user w.to_network i flow event e.beside e.mild
+    (λ shut is. absurd (stays_open w.user w.to_user w.to_network event e.beside now shut)))
 
 open_swapped : (m : ℕ) (event : PairEvent) (w : World)
     → ExpiresBeside (m + 3 * waiting w.network.end + 3 * waiting w.user.end + 6) (swapped w)
@@ -762,18 +733,26 @@ opened_swapped : (event : PairEvent) (w : World)
 opened_swapped event w opened =
     subst (λ u. is_7_or_8 u.network.end.state ≡ true) (network_alike Whole event w) opened
 
+opens : (event : PairEvent) → IsTimer event → (m : ℕ) (s : Side) (w : World) → IsInvariant w
+    → HaveTimersOfStates w → Flow m w → is_7_or_8 (after s event w).user.end.state ≡ true
+    → is_7_or_8 (after s event w).network.end.state ≡ true
+    → is_ok (happens Whole (record { side = s; event = event }) w) ≡ true
+    → ExpiresBeside (m + 3 * waiting w.user.end + 3 * waiting w.network.end + 6) w
+    (after s event w)
+opens event timer m side.User w i have flow user network ok =
+    user_open event timer m w i have.user flow user (ok_of_side side.User event w ok)
+opens event timer m side.Network w i have flow user network ok =
+    open_swapped m event w (user_open event timer m (swapped w) (exchanged w i) have.network
+    (flowing_turned flow) (opened_swapped event w network) (ok_of_side side.Network event w ok))
+
 pub t200_open : (m : ℕ) (s : Side) (w : World) → IsInvariant w → HaveTimersOfStates w → Flow m w
     → is_7_or_8 (after s Expire200 w).user.end.state ≡ true
     → is_7_or_8 (after s Expire200 w).network.end.state ≡ true
     → is_ok (happens Whole (record { side = s; event = Expire200 }) w) ≡ true
     → ExpiresBeside (m + 3 * waiting w.user.end + 3 * waiting w.network.end + 6) w
     (after s Expire200 w)
-t200_open m side.User w i have flow user network ok =
-    user_open_200 m w i have.user flow user (ok_of_side side.User Expire200 w ok)
-t200_open m side.Network w i have flow user network ok =
-    open_swapped m Expire200 w (user_open_200 m (swapped w) (exchanged w i) have.network
-    (flowing_turned flow) (opened_swapped Expire200 w network)
-    (ok_of_side side.Network Expire200 w ok))
+t200_open m s w i have flow user network ok =
+    opens Expire200 t200_timer m s w i have flow user network ok
 
 pub t203_open : (m : ℕ) (s : Side) (w : World) → IsInvariant w → HaveTimersOfStates w → Flow m w
     → is_7_or_8 (after s Expire203 w).user.end.state ≡ true
@@ -781,9 +760,5 @@ pub t203_open : (m : ℕ) (s : Side) (w : World) → IsInvariant w → HaveTimer
     → is_ok (happens Whole (record { side = s; event = Expire203 }) w) ≡ true
     → ExpiresBeside (m + 3 * waiting w.user.end + 3 * waiting w.network.end + 6) w
     (after s Expire203 w)
-t203_open m side.User w i have flow user network ok =
-    user_open_203 m w i have.user flow user (ok_of_side side.User Expire203 w ok)
-t203_open m side.Network w i have flow user network ok =
-    open_swapped m Expire203 w (user_open_203 m (swapped w) (exchanged w i) have.network
-    (flowing_turned flow) (opened_swapped Expire203 w network)
-    (ok_of_side side.Network Expire203 w ok))
+t203_open m s w i have flow user network ok =
+    opens Expire203 t203_timer m s w i have flow user network ok

@@ -32,7 +32,7 @@ use Rattle.lapd_recovery_laws.proofs.OutageWorlds.{released_is_kept}
 use Rattle.lapd_recovery_laws.proofs.OwnBySide.{t200_runs, t203_runs, ok_of_side}
 use Rattle.lapd_recovery_laws.proofs.StaysOpen.{awaits_none}
 use Rattle.lapd_recovery_laws.proofs.TimersBeside.{IsBeside, t200_beside, t203_beside}
-use Rattle.lapd_recovery_laws.proofs.Transitions.{timers_in}
+use Rattle.lapd_recovery_laws.proofs.Transitions.{timers_in, in_7_if_t203}
 
 ignored_calm : (control : Control) → is_ignored control ≡ true → is_release control ≡ false
 ignored_calm (Disc p) ignored = cc
@@ -143,24 +143,10 @@ module _ (x : Station) (to_user to_network : List Flight) where
 
   t203_times : HasTimersOfState x.end → is_ok (acts Whole side.User Expire203 seen) ≡ true
       → Timed (left_by (seeing x [] []) (acts Whole side.User Expire203 (seeing x [] [])))
-  t203_times has ok = by_state x.end.state refl
-    where
-      v : View
-      v = left_by (seeing x [] []) (acts Whole side.User Expire203 (seeing x [] []))
-
-      on : x.end.t203 ≡ true
-      on = t203_runs seen ok
-
-      by_state : (state : State) → x.end.state ≡ state → Timed v
-      by_state TeiAssigned is =
-          let off = (timers_in TeiAssigned x.end has is).1 in let runs = on in cc
-      by_state AwaitingEstablishment is =
-          let off = (timers_in AwaitingEstablishment x.end has is).1 in let runs = on in cc
-      by_state AwaitingRelease is =
-          let off = (timers_in AwaitingRelease x.end has is).1 in let runs = on in cc
-      by_state MultipleFrameEstablished is = opened v 0 (polls_by_t203 x is on)
-      by_state TimerRecovery is =
-          let off = (timers_in TimerRecovery x.end has is).1 in let runs = on in cc
+  t203_times has ok =
+      let on = t203_runs seen ok in
+      opened (left_by (seeing x [] []) (acts Whole side.User Expire203 (seeing x [] []))) 0
+      (polls_by_t203 x (in_7_if_t203 x.end has on) on)
 
 -- ---- The world.
 

@@ -33,6 +33,18 @@ pub timers_in : (state : State) (e : End) → HasTimersOfState e → e.state ≡
 timers_in state e has is =
     subst (λ s. AreTimersOf s e.t200 e.t203 (e.window.vs ≡ e.window.va)) is has
 
+-- T203 runs in state 7 alone
+pub in_7_if_t203 : (e : End) → HasTimersOfState e → e.t203 ≡ true
+    → e.state ≡ MultipleFrameEstablished
+in_7_if_t203 e has on = by_state e.state refl
+  where
+    by_state : (state : State) → e.state ≡ state → e.state ≡ MultipleFrameEstablished
+    by_state MultipleFrameEstablished is = is
+    by_state TeiAssigned is = let off = (timers_in TeiAssigned e has is).1 in cc
+    by_state AwaitingEstablishment is = let off = (timers_in AwaitingEstablishment e has is).1 in cc
+    by_state AwaitingRelease is = let off = (timers_in AwaitingRelease e has is).1 in cc
+    by_state TimerRecovery is = let off = (timers_in TimerRecovery e has is).1 in cc
+
 -- an end in state 4 or 6 has no message
 empty_in : (e : End) (x : Party) → x.sends.given ≡ e.given → x.sends.next ≡ e.next → IsEmpty x.sends
     → length e.given ≡ e.next

@@ -1,5 +1,5 @@
 -- A link that one end wants and neither releases comes up, from every world that a run leads to.
-use Rattle.std.proofs.Common.{◌≡◌, ◌⊎◌, inl, inr, ℕ, ◌+◌, ◌≤◌, false, List, [], ◌∷◌, map, refl, sym, ap, subst, ◌∙◌, arith}
+use Rattle.std.proofs.Common.{◌≡◌, ◌⊎◌, inl, inr, ℕ, ◌+◌, ◌≤◌, false, List, [], ◌∷◌, map, refl, sym, ap, ◌∙◌, arith}
 use Rattle.lapd_frame.specs.declared.Side.{Side}
 use Rattle.lapd_frame.specs.declared.Control.{Control}
 use Rattle.lapd_frame.specs.declared.Control.TheVariants.{I, Rr, Rnr, Rej}
@@ -15,14 +15,11 @@ use Rattle.lapd_pair_laws.specs.Line.{Flight}
 use Rattle.lapd_pair_laws.specs.Move.{PairEvent, Deliver, Lose, Expire200, Expire203, Move}
 use Rattle.lapd_pair_laws.specs.Tagged.{tag_flight, tag_world}
 use Rattle.lapd_pair_laws.specs.World.{World, new_world, run}
-use Rattle.lapd_pair_laws.proofs.Consistency.{run_consistent}
-use Rattle.lapd_pair_laws.proofs.Whole.{each_run_preserves}
 use Rattle.lapd_recovery_laws.specs.WantedLine.{StaysUp, is_dm, NoneRefused, IsWanted}
 use Rattle.lapd_recovery_laws.specs.Agreed.{AreLevel, AreReleased, AreAgreed}
 use Rattle.lapd_recovery_laws.specs.EarlyTimers.{IsLineMove, AreLineMoves}
 use Rattle.lapd_recovery_laws.specs.EveryWorld.{IsFreeWorld}
 use Rattle.lapd_recovery_laws.specs.Losses.{is_loss, one_if, losses}
-use Rattle.lapd_recovery_laws.specs.Own.{Rests}
 use Rattle.lapd_recovery_laws.proofs.AfterOutage.{facts_after, wanting_by_tags}
 use Rattle.lapd_recovery_laws.proofs.CountedMoves.{after}
 use Rattle.lapd_recovery_laws.proofs.DespiteTimers.{despite_timers, line_moves_by_tags}
@@ -30,7 +27,7 @@ use Rattle.lapd_recovery_laws.proofs.DiscSent.{no_disc_after_run}
 use Rattle.lapd_recovery_laws.proofs.EveryWorld.{free_world_by_tags}
 use Rattle.lapd_recovery_laws.proofs.KeepsWanted.{Wants, IsUndisturbed, undisturbed, delivery_keeps}
 use Rattle.lapd_recovery_laws.proofs.OutageWorlds.{Facts}
-use Rattle.lapd_recovery_laws.proofs.OwnOnTags.{rests_by_tags, ran_on_tags, are_level_on_tags}
+use Rattle.lapd_recovery_laws.proofs.OwnOnTags.{are_level_on_tags, at_rest_on_tags}
 use Rattle.lapd_recovery_laws.proofs.RunsEmpty as runs
 use Rattle.lapd_recovery_laws.proofs.TimersWanted.{t200_keeps, t203_keeps}
 
@@ -92,14 +89,9 @@ wanted_level w k a = by_ends a.ends k.either
 stays_up_on_tags : (w : World) → IsInvariant w → IsConsistentWorld Whole w → StaysUp Whole w
     → StaysUp Tagged (tag_world w)
 stays_up_on_tags w i preserved up moves own none rests =
-    let now = run Whole moves w in
-    let same : run Tagged moves (tag_world w) ≡ tag_world now = ran_on_tags moves w i preserved in
-    let still : Rests Whole now =
-    rests_by_tags now (each_run_preserves moves w i)
-    (run_consistent Whole moves w preserved) (subst (λ v. Rests Tagged v) same rests) in
-    subst (λ (v : World). AreLevel v.user.end v.network.end) (sym same)
-    (are_level_on_tags now.user.end now.network.end
-    (up moves (line_moves_by_tags moves w i preserved own).own none still))
+    at_rest_on_tags (λ v. AreLevel v.user.end v.network.end) (λ v. AreLevel v.user.end v.network.end)
+    (λ v. are_level_on_tags v.user.end v.network.end) moves w i preserved
+    (up moves (line_moves_by_tags moves w i preserved own).own none) rests
 
 -- ---- After every run, on whole numbers and on tags.
 
@@ -128,7 +120,7 @@ pub every_wanted_line_comes_up : (r : Reading) (n200 : ℕ) → 1 ≤ n200 → (
     → IsWanted (run r moves (new_world user network))
     → StaysUp r (run r moves (new_world user network))
 every_wanted_line_comes_up r n200 some user network u n us ns moves a k =
-    runs.by_readings user network u n us ns moves (λ w. IsFreeWorld n200 w × IsWanted w)
+    runs.by_readings user network u n moves (λ w. IsFreeWorld n200 w × IsWanted w)
     (λ r w. StaysUp r w) (λ w p. (free_world_by_tags n200 w p.0, wanted_by_tags w p.1))
     stays_up_on_tags (λ p. up_whole p.0 p.1) r (a, k)
   where
@@ -137,11 +129,11 @@ every_wanted_line_comes_up r n200 some user network u n us ns moves a k =
 
     up_whole : IsFreeWorld n200 reached → IsWanted reached → StaysUp Whole reached
     up_whole a k moves_on own none rests =
-        let facts = runs.facts user network u n us ns moves n200 a.user_retries a.network_retries in
+        let facts = runs.facts user network u n moves us ns n200 a.user_retries a.network_retries in
         let wanted =
         undisturbed reached k (no_disc_after_run user network u n us ns moves
         k.ends.mine.not_releasing k.ends.its.not_releasing) in
         wanted_level (run Whole moves_on reached)
         (stays_wanted n200 moves_on reached facts wanted own none)
-        ((despite_timers n200 some reached facts (runs.preserved user network u n us ns moves)
+        ((despite_timers n200 some reached facts (runs.preserved user network u n moves)
         a.user_free a.network_free).agreed moves_on own rests)
