@@ -1,5 +1,5 @@
 -- The own moves of a line after an outage, in any order.
-use Rattle.std.proofs.Common.{◌≡◌, inl, inr, ℕ, ◌+◌, ◌*◌, ◌-◌, ◌≤◌, not, ◌&&◌, ◌||◌, Bool, true, false, List, ◌∷◌, length, is_ok, refl, sym, ap, subst, ◌∙◌, arith, []}
+use Rattle.std.proofs.Common.{◌≡◌, inl, inr, ℕ, ◌+◌, ◌*◌, ◌-◌, ◌≤◌, not, ◌||◌, Bool, true, false, List, ◌∷◌, length, is_ok, refl, sym, ap, subst, ◌∙◌, arith, []}
 use Rattle.lapd_frame.specs.declared.Side.{Side}
 use Rattle.lapd_frame.specs.declared.Side.TheVariants as side
 use Rattle.lapd_mod128.specs.Counting.{Whole}
@@ -20,21 +20,21 @@ use Rattle.lapd_pair_laws.proofs.Stepping.{user_move, network_move}
 use Rattle.lapd_pair_laws.proofs.Swaps.{network_alike}
 use Rattle.lapd_pair_laws.proofs.Whole.{each_move_preserves}
 use Rattle.lapd_pair_laws.proofs.Worlds.{left_by}
-use Rattle.lapd_recovery_laws.specs.Own.{are_apart, is_empty, is_line_empty, is_due, IsOwn}
+use Rattle.lapd_recovery_laws.specs.Own.{are_apart, is_line_empty, is_due, IsOwn}
 use Rattle.lapd_recovery_laws.proofs.AnyOrder.{Draining, draining_swapped, MayRetry, own_moves_on, in_state_7}
 use Rattle.lapd_recovery_laws.proofs.OneMoreFrame.{seeing}
 use Rattle.lapd_recovery_laws.proofs.ClosedSteps.{Sees, seen_after_t200, retry_in_6, give_up_in_6, released, retried}
 use Rattle.lapd_recovery_laws.proofs.HalfSteps.{dm, disc, retry_in_5, give_up_in_5, asked_again, abandoned}
-use Rattle.lapd_recovery_laws.proofs.OwnBySide.{no_delivery, t200_runs, t203_runs, ok_of_side, due_swapped, last_of, not_apart}
+use Rattle.lapd_recovery_laws.proofs.OwnBySide.{no_delivery, t200_runs, t203_runs, ok_of_side, due_swapped}
 use Rattle.lapd_recovery_laws.proofs.LoneSteps.{sabme, ua, asking, last_try_in_8}
 use Rattle.lapd_recovery_laws.proofs.Lost.{at}
 use Rattle.lapd_recovery_laws.proofs.LostExpires.{stream}
 use Rattle.lapd_recovery_laws.proofs.LostMoves.{moved_user, moved_network, weight_in_8}
 use Rattle.lapd_recovery_laws.proofs.SendsOn.{AreIgnored}
-use Rattle.lapd_recovery_laws.proofs.Situations.{Asks6, Crossed, Refused, Parting, tries, twice, attempt_in, attempt, gone, again, Alone4, Alone5, Alone6, by_peer_5, EndInAnswer, Closed, Half, alone_4, alone_5, alone_6, asks_5, asks_6, accepted, crossed, refused, parting, closed, Coming, ComesOn}
-use Rattle.lapd_recovery_laws.proofs.Transitions.{literally, timers_in, attempt_is, state_of, by_user, by_network, open_peer_5, closed_peer_6, none_left, alone4_t200, alone5_t200, alone6_t200, alone4_t203, alone5_peer, alone6_peer, alone4_ignores, alone5_ignores, alone6_ignores}
+use Rattle.lapd_recovery_laws.proofs.Situations.{Asks6, Crossed, Refused, Parting, tries, twice, attempt_in, attempt, gone, again, Alone4, Alone5, Alone6, by_peer_5, Closed, Half, alone_4, alone_5, alone_6, asks_5, asks_6, accepted, crossed, refused, parting, closed, Coming, ComesOn}
+use Rattle.lapd_recovery_laws.proofs.Transitions.{literally, timers_in, attempt_is, state_of, by_user, by_network, open_peer_5, closed_peer_6, none_left, alone4_t200, alone5_t200, alone6_t200, alone4_t203, alone5_peer, alone6_peer, alone4_ignores, alone5_ignores, alone6_ignores, in_7_if_t203}
 use Rattle.lapd_recovery_laws.proofs.Exchanges.{asks5_delivered, asks6_delivered, asks6_ignores, parting_moves, refused_moves, accepted_moves, crossed_moves}
-use Rattle.lapd_recovery_laws.proofs.OutageWorlds.{Facts, facts_swapped, empty_5, empty_6, empty_6_too, not_empty, first_of, second_of, neither_on, stream_unsent, no_t203_if_closed, user_ok}
+use Rattle.lapd_recovery_laws.proofs.OutageWorlds.{Facts, facts_swapped, empty_5, empty_6, empty_6_too, first_of, second_of, neither_on, stream_unsent, no_t203_if_closed, user_ok}
 
 module _ (N : ℕ) (some_retries : 1 ≤ N) where
   -- ---- Both ends are closed: T200 of the user expires.
@@ -322,161 +322,87 @@ module _ (N : ℕ) (some_retries : 1 ≤ N) where
     network_delivers to_user to_network (closed s) f =
         none_to_network to_user to_network s.to_network
 
-    -- a line with a frame for the other side is not empty
-    full_network : (event : PairEvent) (to_user to_network : List Flight) (f : Flight)
-        (fs : List Flight) → to_network ≡ f ∷ fs → is_line_empty (at x y to_user to_network) ≡ true
-        → ⊥
-    full_network event to_user to_network f fs is empty =
-        not_empty to_user f fs (subst (λ l. (is_empty to_user && is_empty l) ≡ true) is empty)
-
-    full_user : (to_user to_network : List Flight) (f : Flight) (fs : List Flight)
-        → to_user ≡ f ∷ fs → is_line_empty (at x y to_user to_network) ≡ true → ⊥
-    full_user to_user to_network f fs is empty =
-        let impossible : false ≡ true =
-        subst (λ l. (is_empty l && is_empty to_network) ≡ true) is empty in
-        cc
-
-    full_parting : (to_user to_network : List Flight) → EndInAnswer N to_user
-        → is_line_empty (at x y to_user to_network) ≡ true → ⊥
-    full_parting [] to_network end empty = absurd end
-    full_parting (f ∷ fs) to_network end empty = cc
-
     -- only these situations have an empty line
-    data Quiet (to_user to_network : List Flight) : Type 0 where
-      quiet_4 : Alone4 N n (at x y [] []) → to_user ≡ [] → to_network ≡ []
-          → Quiet to_user to_network
-      quiet_5 : Alone5 N n (at x y [] []) → to_user ≡ [] → to_network ≡ []
-          → Quiet to_user to_network
-      quiet_6 : Alone6 N n (at x y [] []) → to_user ≡ [] → to_network ≡ []
-          → Quiet to_user to_network
-      quiet_closed : Closed N n (at x y [] []) → to_user ≡ [] → to_network ≡ []
-          → Quiet to_user to_network
+    data Quiet : Type 0 where
+      quiet_4 : Alone4 N n (at x y [] []) → Quiet
+      quiet_5 : Alone5 N n (at x y [] []) → Quiet
+      quiet_6 : Alone6 N n (at x y [] []) → Quiet
+      quiet_closed : Closed N n (at x y [] []) → Quiet
 
-    none_in : (to_user to_network : List Flight) → is_line_empty (at x y to_user to_network) ≡ true
-        → (to_user ≡ []) × (to_network ≡ [])
-    none_in [] [] empty = (refl, refl)
-    none_in (f ∷ fs) to_network empty = cc
-    none_in [] (f ∷ fs) empty = cc
+    quiet_of : Half N n (at x y [] []) → Quiet
+    quiet_of (alone_4 s) = quiet_4 s
+    quiet_of (alone_5 s) = quiet_5 s
+    quiet_of (alone_6 s) = quiet_6 s
+    quiet_of (closed s) = quiet_closed s
+    quiet_of (asks_5 s) = let some = s.to_network in cc
+    quiet_of (asks_6 s) = let some = s.to_network in cc
+    quiet_of (accepted s) = let some = s.to_user in cc
+    quiet_of (crossed s) = let some = s.to_user in cc
+    quiet_of (refused s) = let some = s.to_user in cc
+    quiet_of (parting s) = absurd s.to_user
 
-    quiet_of : (to_user to_network : List Flight) → Half N n (at x y to_user to_network)
-        → is_line_empty (at x y to_user to_network) ≡ true → Quiet to_user to_network
-    quiet_of to_user to_network (alone_4 s) empty =
-        let none = none_in to_user to_network empty in
-        quiet_4 (subst (λ l. Alone4 N n (at x y [] l)) none.1
-        (subst (λ l. Alone4 N n (at x y l to_network)) none.0 s)) none.0 none.1
-    quiet_of to_user to_network (alone_5 s) empty =
-        let none = none_in to_user to_network empty in
-        quiet_5 (subst (λ l. Alone5 N n (at x y [] l)) none.1
-        (subst (λ l. Alone5 N n (at x y l to_network)) none.0 s)) none.0 none.1
-    quiet_of to_user to_network (alone_6 s) empty =
-        let none = none_in to_user to_network empty in
-        quiet_6 (subst (λ l. Alone6 N n (at x y [] l)) none.1
-        (subst (λ l. Alone6 N n (at x y l to_network)) none.0 s)) none.0 none.1
-    quiet_of to_user to_network (closed s) empty =
-        let none = none_in to_user to_network empty in
-        quiet_closed (subst (λ l. Closed N n (at x y [] l)) none.1
-        (subst (λ l. Closed N n (at x y l to_network)) none.0 s)) none.0 none.1
-    quiet_of to_user to_network (asks_5 s) empty =
-        absurd (full_network Expire200 to_user to_network sabme [] s.to_network empty)
-    quiet_of to_user to_network (asks_6 s) empty =
-        absurd (full_network Expire200 to_user to_network disc [] s.to_network empty)
-    quiet_of to_user to_network (accepted s) empty =
-        absurd (full_user to_user to_network ua s.frames s.to_user empty)
-    quiet_of to_user to_network (crossed s) empty =
-        absurd (full_user to_user to_network ua [] s.to_user empty)
-    quiet_of to_user to_network (refused s) empty =
-        absurd (full_user to_user to_network dm [] s.to_user empty)
-    quiet_of to_user to_network (parting s) empty =
-        absurd (full_parting to_user to_network s.to_user empty)
+    on_empty_line : (P : List Flight → List Flight → Type 0) (to_user to_network : List Flight)
+        → is_line_empty (at x y to_user to_network) ≡ true
+        → (Quiet → Facts N (at x y [] []) → P [] []) → Half N n (at x y to_user to_network)
+        → Facts N (at x y to_user to_network) → P to_user to_network
+    on_empty_line P [] [] empty p h f = p (quiet_of h) f
+    on_empty_line P (frame ∷ rest) to_network empty p h f = cc
+    on_empty_line P [] (frame ∷ rest) empty p h f = cc
 
     -- T200 of the user
-    user_t200 : (to_user to_network : List Flight) → Quiet to_user to_network
-        → Facts N (at x y to_user to_network) → ByUser Expire200 to_user to_network
-    user_t200 to_user to_network (quiet_4 s a b) f =
-        literally (ByUser Expire200) to_user to_network [] [] a b
-        (λ due ok. alone4_t200 N some_retries n x y f.few_user (t200_runs (seeing x [] []) ok) s)
-    user_t200 to_user to_network (quiet_5 s a b) f =
-        literally (ByUser Expire200) to_user to_network [] [] a b
-        (λ due ok. alone5_t200 N some_retries n
-        x y f.few_user (t200_runs (seeing x [] []) ok) s)
-    user_t200 to_user to_network (quiet_6 s a b) f =
-        literally (ByUser Expire200) to_user to_network [] [] a b
-        (λ due ok. alone6_t200 N some_retries n
-        x y f.few_user (t200_runs (seeing x [] []) ok) s)
-    user_t200 to_user to_network (quiet_closed s a b) f =
-        literally (ByUser Expire200) to_user to_network [] [] a b
-        (λ due ok. closed_t200 n x y s (t200_runs (seeing x [] []) ok) f.have.user)
+    user_t200 : Quiet → Facts N (at x y [] []) → ByUser Expire200 [] []
+    user_t200 (quiet_4 s) f =
+        λ due ok. alone4_t200 N some_retries n x y f.few_user (t200_runs (seeing x [] []) ok) s
+    user_t200 (quiet_5 s) f =
+        λ due ok. alone5_t200 N some_retries n x y f.few_user (t200_runs (seeing x [] []) ok) s
+    user_t200 (quiet_6 s) f =
+        λ due ok. alone6_t200 N some_retries n x y f.few_user (t200_runs (seeing x [] []) ok) s
+    user_t200 (quiet_closed s) f =
+        λ due ok. closed_t200 n x y s (t200_runs (seeing x [] []) ok) f.have.user
 
     -- T200 of the network, but for two closed ends
-    network_t200 : (to_user to_network : List Flight) → Quiet to_user to_network
-        → Facts N (at x y to_user to_network)
-        → (Closed N n (at x y [] []) → ByNetwork Expire200 [] [])
-        → ByNetwork Expire200 to_user to_network
-    network_t200 to_user to_network (quiet_4 s a b) f other =
-        literally (ByNetwork Expire200) to_user to_network [] [] a b
-        (λ due ok. absurd (let off = (timers_in TeiAssigned y.end f.have.network s.network).0 in
-        let on = t200_runs (seeing y [] []) ok in cc))
-    network_t200 to_user to_network (quiet_5 s a b) f other =
-        literally (ByNetwork Expire200) to_user to_network [] [] a b
-        (λ due ok. alone5_peer N some_retries n x y s f.few_user (t200_runs (seeing y [] []) ok))
-    network_t200 to_user to_network (quiet_6 s a b) f other =
-        let empty = empty_6_too (at x y to_user to_network) f.holds s.network in
-        literally (ByNetwork Expire200) to_user to_network [] [] a b
-        (λ due ok. alone6_peer N some_retries n
-        x y s empty (t200_runs (seeing y [] []) ok))
-    network_t200 to_user to_network (quiet_closed s a b) f other =
-        literally (ByNetwork Expire200) to_user to_network [] [] a b (other s)
+    network_t200 : (Closed N n (at x y [] []) → ByNetwork Expire200 [] []) → Quiet
+        → Facts N (at x y [] []) → ByNetwork Expire200 [] []
+    network_t200 other (quiet_4 s) f =
+        λ due ok. absurd (let off = (timers_in TeiAssigned y.end f.have.network s.network).0 in
+        let on = t200_runs (seeing y [] []) ok in cc)
+    network_t200 other (quiet_5 s) f =
+        λ due ok. alone5_peer N some_retries n x y s f.few_user (t200_runs (seeing y [] []) ok)
+    network_t200 other (quiet_6 s) f =
+        λ due ok. alone6_peer N some_retries n x y s (empty_6_too (at x y [] []) f.holds s.network)
+        (t200_runs (seeing y [] []) ok)
+    network_t200 other (quiet_closed s) f = other s
+
+    both_off : is_due Expire203 (at x y [] []) ≡ true → not (x.end.t200 || y.end.t200) ≡ true
+    both_off due =
+        second_of true (not (x.end.t200 || y.end.t200)) (are_apart (at x y [] [])) due
 
     -- T203 of the user: only if its peer is in state 4
-    both_off : (to_user to_network : List Flight)
-        → is_due Expire203 (at x y to_user to_network) ≡ true
-        → not (x.end.t200 || y.end.t200) ≡ true
-    both_off to_user to_network due =
-        second_of (is_line_empty (at x y to_user to_network)) (not (x.end.t200 || y.end.t200))
-        (are_apart (at x y to_user to_network)) due
-
-    user_t203 : (to_user to_network : List Flight) → Quiet to_user to_network
-        → Facts N (at x y to_user to_network) → ByUser Expire203 to_user to_network
-    user_t203 to_user to_network (quiet_4 s a b) f =
-        λ due ok. by_state x.end.state refl s.open_state due ok
-      where
-        by_state : (state : State) → x.end.state ≡ state → is_7_or_8 state ≡ true
-            → ByUser Expire203 to_user to_network
-        by_state MultipleFrameEstablished is o =
-            literally (ByUser Expire203) to_user to_network [] [] a b
-            (λ due ok. alone4_t203 N some_retries n
-            x y s is (t203_runs (seeing x [] []) ok))
-        by_state TimerRecovery is o =
-            λ due ok. absurd (not_apart x.end y.end is s.network
-            (last_of (is_line_empty (at x y to_user to_network))
-            (not (x.end.t200 || y.end.t200)) _ due))
-        by_state TeiAssigned is o = cc
-        by_state AwaitingEstablishment is o = cc
-        by_state AwaitingRelease is o = cc
-    user_t203 to_user to_network (quiet_5 s a b) f =
-        λ due ok. absurd (neither_on x.end.t200 y.end.t200 (both_off to_user to_network due)
+    user_t203 : Quiet → Facts N (at x y [] []) → ByUser Expire203 [] []
+    user_t203 (quiet_4 s) f =
+        λ due ok. let on = t203_runs (seeing x [] []) ok in
+        alone4_t203 N some_retries n x y s (in_7_if_t203 x.end f.have.user on) on
+    user_t203 (quiet_5 s) f =
+        λ due ok. absurd (neither_on x.end.t200 y.end.t200 (both_off due)
         (timers_in AwaitingEstablishment y.end f.have.network s.network).0)
-    user_t203 to_user to_network (quiet_6 s a b) f =
-        λ due ok. absurd (neither_on x.end.t200 y.end.t200 (both_off to_user to_network due)
+    user_t203 (quiet_6 s) f =
+        λ due ok. absurd (neither_on x.end.t200 y.end.t200 (both_off due)
         (timers_in AwaitingRelease y.end f.have.network s.network).0)
-    user_t203 to_user to_network (quiet_closed s a b) f =
+    user_t203 (quiet_closed s) f =
         λ due ok. absurd (let off = no_t203_if_closed x.end f.have.user s.user in
-        let on = t203_runs (seeing x to_user to_network) ok in cc)
+        let on = t203_runs (seeing x [] []) ok in cc)
 
-    network_t203 : (to_user to_network : List Flight) → Quiet to_user to_network
-        → Facts N (at x y to_user to_network) → ByNetwork Expire203 to_user to_network
-    network_t203 to_user to_network q f =
+    network_t203 : Quiet → Facts N (at x y [] []) → ByNetwork Expire203 [] []
+    network_t203 q f =
         λ due ok. absurd
-        (let off = closed_peer q in let on = t203_runs (seeing y to_network to_user) ok in cc)
+        (let off = no_t203_if_closed y.end f.have.network (closed_peer q) in
+        let on = t203_runs (seeing y [] []) ok in cc)
       where
-        closed_peer : Quiet to_user to_network → y.end.t203 ≡ false
-        closed_peer (quiet_4 s a b) =
-            no_t203_if_closed y.end f.have.network (ap is_7_or_8 s.network)
-        closed_peer (quiet_5 s a b) =
-            no_t203_if_closed y.end f.have.network (ap is_7_or_8 s.network)
-        closed_peer (quiet_6 s a b) =
-            no_t203_if_closed y.end f.have.network (ap is_7_or_8 s.network)
-        closed_peer (quiet_closed s a b) = no_t203_if_closed y.end f.have.network s.network
+        closed_peer : Quiet → is_7_or_8 y.end.state ≡ false
+        closed_peer (quiet_4 s) = ap is_7_or_8 s.network
+        closed_peer (quiet_5 s) = ap is_7_or_8 s.network
+        closed_peer (quiet_6 s) = ap is_7_or_8 s.network
+        closed_peer (quiet_closed s) = s.network
 
   -- ---- The two sides exchanged.
 
@@ -526,24 +452,22 @@ module _ (N : ℕ) (some_retries : 1 ≤ N) where
       subst (λ v. ComesOn N n v) (sym (moved_network Deliver w))
       (network_delivers n w.user w.network w.to_user w.to_network l f due ok)
   half_moves n side.User Expire200 w l f due ok =
-      subst (λ v. ComesOn N n v) (sym (moved_user Expire200 w)) (user_t200 n
-      w.user w.network w.to_user w.to_network
-      (quiet_of n w.user w.network w.to_user w.to_network l due) f due ok)
+      subst (λ v. ComesOn N n v) (sym (moved_user Expire200 w)) (on_empty_line n
+      w.user w.network (ByUser n w.user w.network Expire200) w.to_user w.to_network due
+      (user_t200 n w.user w.network) l f due ok)
   half_moves n side.Network Expire200 w l f due ok =
-      subst (λ v. ComesOn N n v) (sym (moved_network Expire200 w)) (network_t200 n
-      w.user w.network w.to_user w.to_network
-      (quiet_of n w.user w.network w.to_user w.to_network l due) f
-      (λ s due ok. closed_network_t200 n w.user w.network s f.have.network ok) due ok)
+      subst (λ v. ComesOn N n v) (sym (moved_network Expire200 w)) (on_empty_line n
+      w.user w.network (ByNetwork n w.user w.network Expire200) w.to_user w.to_network due
+      (network_t200 n w.user w.network (λ s due ok. closed_network_t200 n
+      w.user w.network s f.have.network ok)) l f due ok)
   half_moves n side.User Expire203 w l f due ok =
-      subst (λ v. ComesOn N n v) (sym (moved_user Expire203 w)) (user_t203 n
-      w.user w.network w.to_user w.to_network (quiet_of n
-      w.user w.network w.to_user w.to_network l (first_of (is_line_empty w) _ _ due)) f due
-      ok)
+      subst (λ v. ComesOn N n v) (sym (moved_user Expire203 w)) (on_empty_line n
+      w.user w.network (ByUser n w.user w.network Expire203) w.to_user w.to_network
+      (first_of (is_line_empty w) _ _ due) (user_t203 n w.user w.network) l f due ok)
   half_moves n side.Network Expire203 w l f due ok =
-      subst (λ v. ComesOn N n v) (sym (moved_network Expire203 w)) (network_t203 n
-      w.user w.network w.to_user w.to_network (quiet_of n
-      w.user w.network w.to_user w.to_network l (first_of (is_line_empty w) _ _ due)) f due
-      ok)
+      subst (λ v. ComesOn N n v) (sym (moved_network Expire203 w)) (on_empty_line n
+      w.user w.network (ByNetwork n w.user w.network Expire203) w.to_user w.to_network
+      (first_of (is_line_empty w) _ _ due) (network_t203 n w.user w.network) l f due ok)
   half_moves n s event w l f due ok = cc
 
   -- ---- Both ends are open, and T200 expires at the last try.

@@ -1,5 +1,5 @@
 -- The worlds of an outage keep the invariant and the timers of their states.
-use Rattle.std.proofs.Common.{◌≡◌, ◌⊎◌, inl, inr, ℕ, ◌*◌, ◌≤◌, not, ◌&&◌, ◌||◌, Bool, true, false, List, ◌∷◌, length, is_ok, refl, sym, subst, arith, [], ◌∙◌}
+use Rattle.std.proofs.Common.{◌≡◌, ◌⊎◌, inl, inr, ℕ, ◌*◌, ◌≤◌, not, ◌&&◌, ◌||◌, Bool, true, false, List, length, is_ok, refl, sym, subst, arith, ◌∙◌}
 use Rattle.lapd_frame.specs.declared.Side.TheVariants as side
 use Rattle.lapd_mod128.specs.Counting.{Whole}
 use Rattle.lapd_link_definition.specs.declared.state.State.{State}
@@ -9,7 +9,6 @@ use Rattle.lapd_link_definition.specs.End.{End, unsent}
 use Rattle.lapd_link_definition.specs.RunningTimers.{HasTimersOfState}
 use Rattle.lapd_pair_laws.specs.Conjuncts.{IsEmpty, IsConsistentSender}
 use Rattle.lapd_pair_laws.specs.Invariant.{IsInvariant}
-use Rattle.lapd_pair_laws.specs.Line.{Flight}
 use Rattle.lapd_pair_laws.specs.Move.{PairEvent, acts}
 use Rattle.lapd_pair_laws.specs.Parties.{party}
 use Rattle.lapd_pair_laws.specs.Timed.{AreSettledEnds}
@@ -18,7 +17,6 @@ use Rattle.lapd_pair_laws.specs.Kinds.{Kind}
 use Rattle.lapd_pair_laws.proofs.Flow.{Source, Sink, Stage, Clean, Waiting, Polling, Answered, IsAt, weight, Stream}
 use Rattle.lapd_pair_laws.proofs.Stepping.{user_move}
 use Rattle.lapd_pair_laws.proofs.Worlds.{exchanged}
-use Rattle.lapd_recovery_laws.specs.Own.{is_empty}
 use Rattle.lapd_recovery_laws.specs.WantedLine.{IsKept}
 use Rattle.lapd_recovery_laws.specs.Timers.{HaveTimersOfStates}
 use Rattle.lapd_recovery_laws.proofs.AnyOrder.{ok_in_world}
@@ -71,11 +69,6 @@ empty_6 w i is =
 pub empty_6_too : (w : World) → IsInvariant w → w.network.end.state ≡ AwaitingRelease
     → length w.network.end.given ≡ w.network.end.next
 empty_6_too w i is = empty_6 (swapped w) (exchanged w i) is
-
-pub not_empty : (a : List Flight) (f : Flight) (fs : List Flight)
-    → (is_empty a && is_empty (f ∷ fs)) ≡ true → ⊥
-not_empty [] f fs empty = cc
-not_empty (g ∷ gs) f fs empty = cc
 
 pub first_of : (a b c : Bool) → (a && b && c) ≡ true → a ≡ true
 first_of true b c all = refl

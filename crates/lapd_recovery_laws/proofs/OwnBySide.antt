@@ -4,9 +4,8 @@ use Rattle.lapd_timers.specs.declared.timer.Timer.TheVariants.{T200}
 use Rattle.lapd_frame.specs.declared.Side.{Side}
 use Rattle.lapd_frame.specs.declared.Side.TheVariants as side
 use Rattle.lapd_mod128.specs.Counting.{Whole}
-use Rattle.lapd_link_definition.specs.declared.state.State.TheVariants.{TeiAssigned, MultipleFrameEstablished, TimerRecovery}
+use Rattle.lapd_link_definition.specs.declared.state.State.TheVariants.{TeiAssigned, MultipleFrameEstablished}
 use Rattle.lapd_link_definition.specs.EndOfStep.{is_established}
-use Rattle.lapd_link_definition.specs.End.{End}
 use Rattle.lapd_link_definition.specs.Input.{Expiry}
 use Rattle.lapd_link_definition.specs.Table.{step}
 use Rattle.lapd_pair_laws.specs.Line.{Flight, first_poll, first_final}
@@ -41,11 +40,6 @@ t203_runs v ok = by_timer v.station.end.t203 refl
     by_timer : (b : Bool) → v.station.end.t203 ≡ b → v.station.end.t203 ≡ true
     by_timer true on = on
     by_timer false off = let impossible : false ≡ true = rw off at ok in cc
-
-pub not_apart : (x y : End) → x.state ≡ TimerRecovery → y.state ≡ TeiAssigned
-    → (if is_established x.state then not (is_established y.state) else is_established y.state)
-    ≡ true → ⊥
-not_apart x y is its_is apart = let impossible : false ≡ true = rw (is, its_is) at apart in cc
 
 pub last_of : (a b c : Bool) → (a && b && c) ≡ true → c ≡ true
 last_of true true c all = all
