@@ -195,7 +195,7 @@ agreed_at_rest N n w c f preserved rests = by_coming c
     by_coming : Coming N n w → AreAgreed w
     by_coming (inl d) =
         drained_agree n w.user w.network w.to_user w.to_network preserved
-        (rests_drained true n w d f.have still) still
+        (rests_drained n w d f.have still) still
     by_coming (inr (inl l)) =
         let s = half_rests N n w l f.have still (λ own. rests (user_move Expire203) own) in
         closed_agree w f.holds preserved f.have still s.user s.network

@@ -57,8 +57,8 @@ pub record IsWeight (N l most : ℕ) (Holds Weight : ℕ → World → Type 0) :
       → Holds b (after s (Lose i) w)
   pub begins : (b n : ℕ) (x y : Station) → Keeps N l (at x y [] []) → Holds b (at x y [] [])
       → Flow n (at x y [] []) → Weighs most Weight n (at x y [] [])
-  pub falls : (n : ℕ) (s : Side) (event : PairEvent) (w : World) → Weight n w → Keeps N l w
-      → IsOwn Whole (record { side = s; event = event }) w → Lighter Weight n (after s event w)
+  pub falls : (b n : ℕ) (s : Side) (event : PairEvent) (w : World) → Weight n w → Keeps N l w
+      → Holds b w → IsOwn Whole (record { side = s; event = event }) w → Lighter Weight n (after s event w)
 
 module _ (N l most : ℕ) (Holds Weight : ℕ → World → Type 0)
     (h : IsWeight N l most Holds Weight) where
@@ -93,7 +93,7 @@ module _ (N l most : ℕ) (Holds Weight : ℕ → World → Type 0)
     keeps : Keeps N l now
 
   -- a frame is delivered
-  module _ (n : ℕ) (s : Side) (w : World) (k : Keeps N l w)
+  module _ (b n : ℕ) (s : Side) (w : World) (k : Keeps N l w) (held : Holds b w)
       (own : IsOwn Whole (record { side = s; event = Deliver }) w) where
     abbrev delivered : World
     delivered = after s Deliver w
@@ -129,7 +129,7 @@ module _ (N l most : ℕ) (Holds Weight : ℕ → World → Type 0)
         }
     deliver (inr r) =
         let d = by_flow (3 * l + 6) r.flow in
-        let c = h.falls r.m s Deliver w r.weight k own in
+        let c = h.falls b r.m s Deliver w r.weight k held own in
         let one = c.some_left in
         let few = r.few in
         record {
@@ -167,12 +167,13 @@ module _ (N l most : ℕ) (Holds Weight : ℕ → World → Type 0)
         few = omega (arith, some_few, few);
       }
 
-  expire : (n m : ℕ) (s : Side) (event : PairEvent) (w : World) → Keeps N l w → Returns n w
+  expire : (b n m : ℕ) (s : Side) (event : PairEvent) (w : World) → Keeps N l w → Holds b w
+      → Returns n w
       → IsOwn Whole (record { side = s; event = event }) w → frames w ≡ 0
       → ExpiresBeside m w (after s event w) → Falls n (after s event w)
-  expire n m s event w k r own none x =
+  expire b n m s event w k held r own none x =
       let now = after s event w in
-      let c = h.falls r.m s event w r.weight k own in
+      let c = h.falls b r.m s event w r.weight k held own in
       let one = c.some_left in
       let most_few = r.few in
       let few = k.few in
@@ -205,8 +206,8 @@ module _ (N l most : ℕ) (Holds Weight : ℕ → World → Type 0)
   own_expires_200 b n s x y [] [] w own =
       let f = w.keeps.facts in
       let r = emptied b n x y w.keeps w.holds w.phase in
-      expire n (most_beside (3 * l + 6) s Expire200 (at x y [] [])) s Expire200 (at x y [] []) w.keeps
-      r own refl (t200_early (3 * l + 6) x y [] [] f.holds f.have r.flow s own.admitted)
+      expire b n (most_beside (3 * l + 6) s Expire200 (at x y [] [])) s Expire200 (at x y [] []) w.keeps
+      w.holds r own refl (t200_early (3 * l + 6) x y [] [] f.holds f.have r.flow s own.admitted)
   own_expires_200 b n s x y (frame ∷ arriving) to_network w own = let due = own.due in cc
   own_expires_200 b n s x y [] (frame ∷ arriving) w own = let due = own.due in cc
 
@@ -217,8 +218,8 @@ module _ (N l most : ℕ) (Holds Weight : ℕ → World → Type 0)
   own_expires_203 b n s x y [] [] w own =
       let f = w.keeps.facts in
       let r = emptied b n x y w.keeps w.holds w.phase in
-      expire n (most_beside (3 * l + 6) s Expire203 (at x y [] [])) s Expire203 (at x y [] []) w.keeps
-      r own refl (t203_early (3 * l + 6) x y [] [] f.holds f.have r.flow s own.admitted)
+      expire b n (most_beside (3 * l + 6) s Expire203 (at x y [] [])) s Expire203 (at x y [] []) w.keeps
+      w.holds r own refl (t203_early (3 * l + 6) x y [] [] f.holds f.have r.flow s own.admitted)
   own_expires_203 b n s x y (frame ∷ arriving) to_network w own = let due = own.due in cc
   own_expires_203 b n s x y [] (frame ∷ arriving) w own = let due = own.due in cc
 
@@ -312,7 +313,7 @@ module _ (N l most : ℕ) (Holds Weight : ℕ → World → Type 0)
       let is_own : IsOwn Whole (record { side = s; event = Deliver }) w =
       record { due = refl; admitted = one.admitted } in
       falls_on b n s Deliver w moves refl bounds is_own
-      (deliver n s w bounds.keeps is_own bounds.phase) rest own (omega (arith, le))
+      (deliver b n s w bounds.keeps bounds.holds is_own bounds.phase) rest own (omega (arith, le))
   first b n s (Lose i) w moves bounds rest one own le =
       let some : b ≡ (b - 1) + 1 = omega (arith, le) in
       let r =

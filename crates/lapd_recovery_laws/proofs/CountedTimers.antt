@@ -145,7 +145,7 @@ module _ (N l most : ℕ) (Weight : ℕ → World → Type 0)
       → Comes n w (record { side = s; event = event } ∷ moves)
   first n s Deliver w moves k one rest =
       falls n s Deliver w moves
-      (counted.deliver N l most Always Weight h n s w k.keeps
+      (counted.deliver N l most Always Weight h 0 n s w k.keeps tt
       (record { due = refl; admitted = one.admitted }) k.phase) rest
   first n s (Lose i) w moves k one rest =
       let b =

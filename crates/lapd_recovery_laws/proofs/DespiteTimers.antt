@@ -52,7 +52,7 @@ outage N some l = record {
       }) in
       record { m = e.m; weight = e.coming; few = let most = e.most in omega (arith, most) };
   falls =
-      λ n s event w weight k own. let c = coming_moves N some n s event w weight k.facts own in
+      λ b n s event w weight k held own. let c = coming_moves N some n s event w weight k.facts own in
       record { some_left = c.some; weight = c.arriving };
 }
 

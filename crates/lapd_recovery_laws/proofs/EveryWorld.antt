@@ -1,5 +1,5 @@
 -- A line that has run empty recovers as after an outage, and where it rests its ends agree.
-use Rattle.std.proofs.Common.{◌≡◌, inl, inr, ℕ, ◌+◌, ◌-◌, ◌*◌, ◌≤◌, nat_lt, ◌||◌, Bool, true, false, List, [], ◌∷◌, length, refl, ap, arith}
+use Rattle.std.proofs.Common.{◌≡◌, inl, inr, ℕ, ◌+◌, ◌-◌, ◌*◌, ◌≤◌, Bool, true, false, List, [], ◌∷◌, length, refl, ap, arith}
 use Rattle.lapd_mod128.specs.Counting.{Whole}
 use Rattle.lapd_link_definition.specs.declared.state.State.{State}
 use Rattle.lapd_link_definition.specs.declared.state.State.TheVariants.{AwaitingEstablishment, MultipleFrameEstablished, TimerRecovery}
@@ -136,11 +136,9 @@ module _ (N : ℕ) (some : 1 ≤ N) where
         share_unsent y x i.network_base i.user_base [] [] f.b
         (record { mine = i.both.its; its = i.both.mine }) f.its
 
-    both_open : (last : Bool) → is_7_or_8 x.end.state ≡ true → is_7_or_8 y.end.state ≡ true
-        → (x.end.state ≡ TimerRecovery → (last || nat_lt x.end.rc x.end.parameters.n200) ≡ true)
-        → (y.end.state ≡ TimerRecovery → (last || nat_lt y.end.rc y.end.parameters.n200) ≡ true)
-        → Draining last (n + 8) w
-    both_open last o p x_tries y_tries =
+    both_open : is_7_or_8 x.end.state ≡ true → is_7_or_8 y.end.state ≡ true
+        → Draining (n + 8) w
+    both_open o p =
         let mine : Mid (party i.user_base x) (party i.network_base y) [] [] =
         enter (party i.user_base x) (party i.network_base y) [] [] o i.both in
         let its : Mid (party i.network_base y) (party i.user_base x) [] [] =
@@ -156,8 +154,8 @@ module _ (N : ℕ) (some : 1 ≤ N) where
         let burden_x = share_burden x.end y.end f.a o p (b.network_free p) f.mine in
         let burden_y = share_burden y.end x.end f.b p o (b.user_free o) f.its in
         let most = f.most in
-        draining_from x y i b.facts.settled last o p (b.user_free o) (b.network_free p) x_tries
-        y_tries (f.a + 4) (f.b + 4) (n + 8)
+        draining_from x y i b.facts.settled o p (b.user_free o) (b.network_free p)
+        (f.a + 4) (f.b + 4) (n + 8)
         (λ is. stream_so (source x.end) (sink y.end) (f.a + 4) is between.0 between.1
         (in_7 x.end is b.facts.settled.user.timed) burden_x)
         (λ is. stream_so (source y.end) (sink x.end) (f.b + 4) is between_its.0 between_its.1
@@ -170,7 +168,7 @@ module _ (N : ℕ) (some : 1 ≤ N) where
         b.facts.few_user b.facts.few_network
         (λ o p. record {
           m = n + 8;
-          coming = inl (both_open true o p (λ _. refl) (λ _. refl));
+          coming = inl (both_open o p);
           most = omega (arith, some);
         })
         (λ c. record {
@@ -186,10 +184,8 @@ module _ (N : ℕ) (some : 1 ≤ N) where
 
   pub drains_at : (n : ℕ) (x y : Station) → Begins n (at x y [] []) → is_7_or_8 x.end.state ≡ true
       → is_7_or_8 y.end.state ≡ true
-      → (x.end.state ≡ TimerRecovery → nat_lt x.end.rc x.end.parameters.n200 ≡ true)
-      → (y.end.state ≡ TimerRecovery → nat_lt y.end.rc y.end.parameters.n200 ≡ true)
-      → Draining false (n + 8) (at x y [] [])
-  drains_at n x y b o p x_tries y_tries = both_open n x y b false o p x_tries y_tries
+      → Draining (n + 8) (at x y [] [])
+  drains_at n x y b o p = both_open n x y b o p
 
   -- where no own move is possible, the ends agree
   pub rests_agree : (w : World) → Facts N w → IsConsistentWorld Whole w → IsFree w.user.end

@@ -2,6 +2,7 @@
 use Rattle.std.proofs.Common.{◌≡◌, ◌⊎◌, inl, inr, ℕ, ◌+◌, ◌≤◌, ◌||◌, true, false, List, [], ◌∷◌, refl, sym, ap, subst, ◌∙◌, arith, ◌*◌}
 use Rattle.std.proofs.lemmas.Nat.{mul-le}
 use Rattle.lapd_frame.specs.declared.Side.{Side}
+use Rattle.lapd_frame.specs.declared.Side.TheVariants as side
 use Rattle.lapd_mod128.specs.Counting.{Reading, Whole, Tagged}
 use Rattle.lapd_link_definition.specs.EndOfStep.{is_7_or_8}
 use Rattle.lapd_link_definition.specs.End.{End}
@@ -10,9 +11,10 @@ use Rattle.lapd_link_definition.specs.Tagging.{tag_end}
 use Rattle.lapd_pair_laws.specs.Consistent.{IsConsistentWorld}
 use Rattle.lapd_pair_laws.specs.Invariant.{IsInvariant}
 use Rattle.lapd_pair_laws.specs.Kinds.{Kind, kinds}
-use Rattle.lapd_pair_laws.specs.Move.{PairEvent, Deliver, Expire200, Expire203, Move}
+use Rattle.lapd_pair_laws.specs.Line.{Flight}
+use Rattle.lapd_pair_laws.specs.Move.{Station, PairEvent, Deliver, Expire200, Expire203, Move}
 use Rattle.lapd_pair_laws.specs.Tagged.{tag_world}
-use Rattle.lapd_pair_laws.specs.World.{World, new_world, happens, world_after, run, left}
+use Rattle.lapd_pair_laws.specs.World.{World, view_of, new_world, happens, world_after, run, left}
 use Rattle.lapd_pair_laws.proofs.Consistency.{run_consistent}
 use Rattle.lapd_pair_laws.proofs.TaggedMoves.{left_on_tags, safe_on_tags}
 use Rattle.lapd_pair_laws.proofs.Whole.{each_move_preserves, each_run_preserves}
@@ -23,12 +25,13 @@ use Rattle.lapd_recovery_laws.specs.FewLosses.{t203s, most_t200s, most_open_line
 use Rattle.lapd_recovery_laws.specs.Deliveries.{frames}
 use Rattle.lapd_recovery_laws.specs.EarlyTimers.{AreLineMoves}
 use Rattle.lapd_recovery_laws.specs.Losses.{is_loss, AreOwnOrLosses, losses}
-use Rattle.lapd_recovery_laws.specs.Own.{IsOwn}
+use Rattle.lapd_recovery_laws.specs.Own.{is_line_empty, is_due, IsOwn}
 use Rattle.lapd_recovery_laws.proofs.AfterOutage.{free_by_tags}
-use Rattle.lapd_recovery_laws.proofs.AnyOrder.{Draining, own_moves_on}
+use Rattle.lapd_recovery_laws.proofs.AnyOrder.{Draining, MayRetry, own_moves_on}
 use Rattle.lapd_recovery_laws.proofs.CountedMoves.{after, Keeps, IsWeight, moves_counted}
 use Rattle.lapd_recovery_laws.proofs.DespiteTimers.{despite_timers, line_moves_by_tags}
 use Rattle.lapd_recovery_laws.proofs.EveryWorld.{drains_at}
+use Rattle.lapd_recovery_laws.proofs.Lost.{at}
 use Rattle.lapd_recovery_laws.proofs.OpenMoves.{open_moves_counted}
 use Rattle.lapd_recovery_laws.proofs.OutageWorlds.{Facts}
 use Rattle.lapd_recovery_laws.proofs.OwnOnTags.{due_on_tags, ok_on_tags, world_on_tags, ran_on_tags, are_level_on_tags, agreed_on_tags, at_rest_on_tags}
@@ -53,7 +56,18 @@ own_lasts b s Expire200 w N l k held own =
 own_lasts b s Expire203 w N l k held own = absurd (never_203 b w held k.facts.have own.due)
 own_lasts b s event w N l k held own = let due = own.due in cc
 
-open_weight : (N : ℕ) → 1 ≤ N → (l : ℕ) → IsWeight N l 8 Lasts (λ n w. Draining false n w)
+-- on an empty line
+may_retry : (b : ℕ) (s : Side) (x y : Station) (to_user to_network : List Flight)
+    → Lasts b (at x y to_user to_network) → is_line_empty (at x y to_user to_network) ≡ true
+    → MayRetry (view_of s (at x y to_user to_network)).station.end
+may_retry b side.User x y [] [] l empty is =
+    let enough = l.user.tries is in less x.end.rc x.end.parameters.n200 (omega (arith, enough))
+may_retry b side.Network x y [] [] l empty is =
+    let enough = l.network.tries is in less y.end.rc y.end.parameters.n200 (omega (arith, enough))
+may_retry b s x y (frame ∷ rest) to_network l empty is = cc
+may_retry b s x y [] (frame ∷ rest) l empty is = cc
+
+open_weight : (N : ℕ) → 1 ≤ N → (l : ℕ) → IsWeight N l 8 Lasts (λ n w. Draining n w)
 open_weight N some l = record {
   own_holds = λ b s event w k held own. own_lasts b s event w N l k held own;
   loss_holds = λ b i s w held ok. (lose b i s w held ok).lasts;
@@ -70,17 +84,14 @@ open_weight N some l = record {
               user_free = k.user_free;
               network_free = k.network_free;
             }) u.open_state
-            v.open_state
-            (λ is. let enough =
-            u.tries is in less x.end.rc x.end.parameters.n200 (omega (arith, enough)))
-            (λ is. let enough =
-            v.tries is in less y.end.rc y.end.parameters.n200 (omega (arith, enough)));
+            v.open_state;
         few = omega arith;
       };
   falls =
-      λ n s event w weight k own. let m =
-      own_moves_on false n (record { side = s; event = event }) w weight (λ is last. cc)
-      k.facts.have own in record { some_left = m.some; weight = m.draining };
+      λ b n s event w weight k held own. let m =
+      own_moves_on n (record { side = s; event = event }) w weight
+      (λ is. may_retry b s w.user w.network w.to_user w.to_network held
+      (subst (λ e. is_due e w ≡ true) is own.due)) k.facts.have own in record { some_left = m.some; weight = m.draining };
 }
 
 few_losses : (N lost : ℕ) → 1 ≤ N → (w : World) → Facts N w → IsConsistentWorld Whole w
@@ -92,7 +103,7 @@ few_losses N lost some w f preserved o = record {
       (open_moves_counted N lost w kept begins moves own le).few;
   own_few = λ moves own le.
       let few =
-      (moves_counted N (left w) 8 Lasts (λ n v. Draining false n v)
+      (moves_counted N (left w) 8 Lasts (λ n v. Draining n v)
       (open_weight N some (left w)) lost w kept begins moves own le).few in
       let more = mul-le (losses moves) (4 * left w + 15) lost (4 * left w + 15) le (omega arith) in
       omega (arith, few, more);

@@ -53,7 +53,6 @@ pub mod Releases
 pub mod Renewals
 pub mod Replies
 pub mod RepliesOfRows
-pub mod RetriesLeft
 pub mod Retry
 pub mod RunsEmpty
 pub mod SendsOn

@@ -1,6 +1,6 @@
 -- An end in state 8 whose poll, or the answer to it, was lost. Until T200 expires it behaves as if
 -- the answer were the last frame in transit to it, and never arrived.
-use Rattle.std.proofs.Common.{◌≡◌, inl, ℕ, ◌+◌, ◌-◌, ◌≤◌, nat_lt, ◌||◌, Bool, true, false, List, [], ◌∷◌, ◌++◌, length, length-append, Some, refl, sym, subst, arith}
+use Rattle.std.proofs.Common.{◌≡◌, inl, ℕ, ◌+◌, ◌-◌, ◌≤◌, true, false, List, [], ◌∷◌, ◌++◌, length, length-append, Some, refl, sym, subst, arith}
 use Rattle.lapd_frame.specs.declared.Role.TheVariants.{Answer}
 use Rattle.lapd_frame.specs.declared.Control.TheVariants.{Rr}
 use Rattle.lapd_link_definition.specs.declared.state.State.{State}
@@ -99,11 +99,10 @@ at user network to_user to_network =
 abbrev pub with_final : World → World
 with_final w = at w.user w.network (w.to_user ++ final_of_peer w.network ∷ []) w.to_network
 
--- the user is lost; unless `last`, with a retry of T200 left
-pub record UserLost (last : Bool) (n : ℕ) (w : World) : Type 0 where
+-- the user is lost
+pub record UserLost (n : ℕ) (w : World) : Type 0 where
   pub holds : IsInvariant w
   pub in_8 : w.user.end.state ≡ TimerRecovery
-  pub tries : (last || nat_lt w.user.end.rc w.user.end.parameters.n200) ≡ true
   pub two : 2 ≤ n
   pub drains : Drains (n - 2) (with_final w)
 
@@ -111,11 +110,10 @@ pub final_kinds : (fs : List Flight) (y : Station)
     → kinds (fs ++ final_of_peer y ∷ []) ≡ kinds fs ++ Final y.end.window.vr ∷ []
 final_kinds fs y = kinds_more fs (final_of_peer y)
 
-pub record LostParts (last : Bool) (n : ℕ) (w : World) : Type 0 where
+pub record LostParts (n : ℕ) (w : World) : Type 0 where
   pub holds : IsInvariant w
   pub ends_settled : AreSettledEnds w
   pub in_8 : w.user.end.state ≡ TimerRecovery
-  pub tries : (last || nat_lt w.user.end.rc w.user.end.parameters.n200) ≡ true
   pub peer_open : is_7_or_8 w.network.end.state ≡ true
   pub lost : IsLost (kinds w.to_network) (kinds w.to_user)
   pub b : ℕ
@@ -131,8 +129,8 @@ pub kinds_length : (fs : List Flight) → length (kinds fs) ≡ length fs
 kinds_length [] = refl
 kinds_length (f ∷ fs) = let rest = kinds_length fs in omega (arith, rest)
 
-pub lost_so : (last : Bool) (n : ℕ) (w : World) → LostParts last n w → UserLost last n w
-lost_so last n w p =
+pub lost_so : (n : ℕ) (w : World) → LostParts n w → UserLost n w
+lost_so n w p =
     let x = w.user in
     let y = w.network in
     let u = Final y.end.window.vr in
@@ -163,7 +161,6 @@ lost_so last n w p =
     record {
       holds = i;
       in_8 = p.in_8;
-      tries = p.tries;
       two = let le = p.most in omega (arith, le);
       drains = record {
         holds = record {

@@ -1,5 +1,5 @@
 -- T200 expires on an empty line, at a lost end or at its peer.
-use Rattle.std.proofs.Common.{◌≡◌, ◌⊎◌, inl, inr, ℕ, ◌+◌, ◌-◌, ◌≤◌, nat_lt, ◌||◌, Bool, true, false, List, [], ◌∷◌, Result, refl, sym, ap, subst, arith}
+use Rattle.std.proofs.Common.{◌≡◌, ◌⊎◌, inl, inr, ℕ, ◌+◌, ◌-◌, ◌≤◌, nat_lt, true, false, List, [], ◌∷◌, Result, refl, sym, ap, subst, arith}
 use Rattle.lapd_frame.specs.declared.Side.TheVariants as side
 use Rattle.lapd_mod128.specs.Counting.{Whole}
 use Rattle.lapd_link_definition.specs.declared.state.State.TheVariants.{MultipleFrameEstablished, TimerRecovery}
@@ -55,11 +55,11 @@ none_or_one : (n : ℕ) → n ≤ 1 → (n ≡ 0) ⊎ (n ≡ 1)
 none_or_one n few = grind (arith, few)
 
 -- The peer of the lost user has moved. The frames in transit to the user may have a final.
-pub peer_moved : (last : Bool) (n : ℕ) (w : World) → IsInvariant w → AreSettledEnds w
+pub peer_moved : (n : ℕ) (w : World) → IsInvariant w → AreSettledEnds w
     → w.user.end.state ≡ TimerRecovery
-    → (last || nat_lt w.user.end.rc w.user.end.parameters.n200) ≡ true → w.to_network ≡ []
-    → Seen n (view_of side.Network w) (stand_in w.user) → UserLost last n w ⊎ Drains n w
-peer_moved last n w i ends_settled in_8 tries none s =
+    → w.to_network ≡ []
+    → Seen n (view_of side.Network w) (stand_in w.user) → UserLost n w ⊎ Drains n w
+peer_moved n w i ends_settled in_8 none s =
     by_finals
     (none_or_one (tally final_of (kinds w.to_user)) (let one = asked.one in omega (arith, one)))
   where
@@ -76,12 +76,11 @@ peer_moved last n w i ends_settled in_8 tries none s =
     heavy = still_waits x (sink y.end) (kinds w.to_network) (kinds w.to_user) s.flow.b s.flow.its
 
     by_finals : (tally final_of (kinds w.to_user) ≡ 0) ⊎ (tally final_of (kinds w.to_user) ≡ 1)
-        → UserLost last n w ⊎ Drains n w
-    by_finals (inl lost) = inl (lost_so last n w (record {
+        → UserLost n w ⊎ Drains n w
+    by_finals (inl lost) = inl (lost_so n w (record {
       holds = i;
       ends_settled = ends_settled;
       in_8 = in_8;
-      tries = tries;
       peer_open = mine_open s.flow;
       lost = record {
         polls = ap (λ fs. tally poll_of (kinds fs)) none;
@@ -130,7 +129,7 @@ expired_at x = left_by (seeing x [] []) (acts Whole side.User Expire200 (seeing 
 
 -- ---- One end is lost.
 
-module _ (last : Bool) (n : ℕ) (x y : Station) (l : UserLost last n (at x y [] [])) where
+module _ (n : ℕ) (x y : Station) (l : UserLost n (at x y [] [])) where
   abbrev w : World
   w = at x y [] []
 
@@ -186,50 +185,46 @@ module _ (last : Bool) (n : ℕ) (x y : Station) (l : UserLost last n (at x y []
   }
 
   pub lost_peer_expires : y.end.t200 ≡ true
-      → UserLost last (n - 1) (world_after w (happens Whole (network_move Expire200) w))
+      → UserLost (n - 1) (world_after w (happens Whole (network_move Expire200) w))
       ⊎ Drains (n - 1) (world_after w (happens Whole (network_move Expire200) w))
   lost_peer_expires on =
       let same = moved_network Expire200 w in
-      subst (λ v. UserLost last (n - 1) v ⊎ Drains (n - 1) v) (sym same)
-      (peer_moved last (n - 1) (seen_by_network (expired_at y) w)
+      subst (λ v. UserLost (n - 1) v ⊎ Drains (n - 1) v) (sym same)
+      (peer_moved (n - 1) (seen_by_network (expired_at y) w)
       (subst IsInvariant same (each_move_preserves (network_move Expire200) w l.holds))
       (subst AreSettledEnds same (move_settles (network_move Expire200) w ends)) l.in_8
-      l.tries (nothing_comes y)
+      (nothing_comes y)
       (seen_expired y (stand_in x) n on stands_in))
 
 -- ---- Both ends are lost.
 
-pub record BothLost (last : Bool) (n : ℕ) (w : World) : Type 0 where
+pub record BothLost (n : ℕ) (w : World) : Type 0 where
   pub to_user : w.to_user ≡ []
   pub to_network : w.to_network ≡ []
   pub holds : IsInvariant w
   pub ends_settled : AreSettledEnds w
   pub user_in_8 : w.user.end.state ≡ TimerRecovery
   pub network_in_8 : w.network.end.state ≡ TimerRecovery
-  pub user_tries : (last || nat_lt w.user.end.rc w.user.end.parameters.n200) ≡ true
-  pub network_tries : (last || nat_lt w.network.end.rc w.network.end.parameters.n200) ≡ true
   pub user_idle : w.user.end.window.own_busy ≡ false
   pub network_idle : w.network.end.window.own_busy ≡ false
   pub most : burden 3 (source w.user.end) (sink w.network.end)
       + burden 3 (source w.network.end) (sink w.user.end) ≤ n
 
-pub both_swapped : (last : Bool) (n : ℕ) (w : World) → BothLost last n w
-    → BothLost last n (swapped w)
-both_swapped last n w l = record {
+pub both_swapped : (n : ℕ) (w : World) → BothLost n w
+    → BothLost n (swapped w)
+both_swapped n w l = record {
   to_user = l.to_network;
   to_network = l.to_user;
   holds = exchanged w l.holds;
   ends_settled = record { user = l.ends_settled.network; network = l.ends_settled.user };
   user_in_8 = l.network_in_8;
   network_in_8 = l.user_in_8;
-  user_tries = l.network_tries;
-  network_tries = l.user_tries;
   user_idle = l.network_idle;
   network_idle = l.user_idle;
   most = let le = l.most in omega (arith, le);
 }
 
-module _ (last : Bool) (n : ℕ) (x y : Station) (l : BothLost last n (at x y [] []))
+module _ (n : ℕ) (x y : Station) (l : BothLost n (at x y [] []))
     (on : x.end.t200 ≡ true) (tries : nat_lt x.end.rc x.end.parameters.n200 ≡ true) where
   abbrev both : World
   both = at x y [] []
@@ -245,7 +240,7 @@ module _ (last : Bool) (n : ℕ) (x y : Station) (l : BothLost last n (at x y []
   }
 
   -- T200 of the user expires: the other stays lost, unless an answer to it is in transit
-  pub both_lost_expires : UserLost last (n - 1)
+  pub both_lost_expires : UserLost (n - 1)
       (swapped (world_after both (happens Whole (user_move Expire200) both)))
       ⊎ Drains (n - 1) (swapped (world_after both (happens Whole (user_move Expire200) both)))
   both_lost_expires =
@@ -253,10 +248,10 @@ module _ (last : Bool) (n : ℕ) (x y : Station) (l : BothLost last n (at x y []
       let now = with_view side.User (expired_at x) both in
       let ends =
       subst AreSettledEnds same (move_settles (user_move Expire200) both l.ends_settled) in
-      subst (λ v. UserLost last (n - 1) (swapped v) ⊎ Drains (n - 1) (swapped v)) (sym same)
-      (peer_moved last (n - 1) (swapped now)
+      subst (λ v. UserLost (n - 1) (swapped v) ⊎ Drains (n - 1) (swapped v)) (sym same)
+      (peer_moved (n - 1) (swapped now)
       (exchanged now
       (subst IsInvariant same (each_move_preserves (user_move Expire200) both l.holds)))
-      (record { user = ends.network; network = ends.user }) l.network_in_8 l.network_tries
+      (record { user = ends.network; network = ends.user }) l.network_in_8
       (nothing_comes x)
       (seen_retried x (stand_in y) (n - 1) on l.network_idle both_retries))

@@ -1,14 +1,11 @@
 -- The moves of a line with a lost end: each reduces the remaining work.
-use Rattle.std.proofs.Common.{◌≡◌, ℕ, ◌+◌, ◌-◌, ◌≤◌, nat_lt, ◌||◌, Bool, true, List, [], ◌∷◌, ◌++◌, length, refl, sym, ap, subst, ◌∙◌, arith}
+use Rattle.std.proofs.Common.{◌≡◌, ℕ, ◌+◌, ◌-◌, ◌≤◌, true, List, [], ◌∷◌, ◌++◌, length, refl, sym, ap, subst, ◌∙◌, arith}
 use Rattle.lapd_frame.specs.declared.Side.TheVariants as side
 use Rattle.lapd_mod128.specs.Counting.{Whole}
 use Rattle.lapd_link_definition.specs.declared.state.State.{State}
 use Rattle.lapd_link_definition.specs.declared.state.State.TheVariants.{TeiAssigned, AwaitingEstablishment, AwaitingRelease, MultipleFrameEstablished, TimerRecovery}
-use Rattle.lapd_link_definition.specs.EndOfStep.{is_7_or_8, end_step}
-use Rattle.lapd_link_definition.specs.End.{begin}
-use Rattle.lapd_link_definition.specs.Input.{Heard}
-use Rattle.lapd_link_definition.specs.Table.{row, step}
-use Rattle.lapd_link_definition.proofs.PreservedByStep.{step_preserves_parameters}
+use Rattle.lapd_link_definition.specs.EndOfStep.{is_7_or_8}
+use Rattle.lapd_link_definition.specs.Table.{step}
 use Rattle.lapd_pair_laws.specs.Line.{Flight}
 use Rattle.lapd_pair_laws.specs.Move.{PairEvent, Deliver, Station, View, acts, receives, delivers, view_after, story_after}
 use Rattle.lapd_pair_laws.specs.World.{World, swapped, view_of, with_view, world_after, happens}
@@ -33,7 +30,6 @@ use Rattle.lapd_pair_laws.proofs.Whole.{each_move_preserves}
 use Rattle.lapd_pair_laws.proofs.Worlds.{left_by}
 use Rattle.lapd_recovery_laws.proofs.OneMoreFrame.{messages_beside, tally_beside, ready_beside, length_beside, ViewsBeside, seeing, delivered_beside}
 use Rattle.lapd_recovery_laws.proofs.Lost.{final_of_peer, at, with_final, UserLost, LostParts, final_kinds, kinds_length, lost_so}
-use Rattle.lapd_recovery_laws.proofs.RetriesLeft.{same_rc}
 
 -- ---- A world after a move.
 
@@ -114,39 +110,12 @@ beside : (x y : Station) (frame : Flight) (rest to_network : List Flight)
 unfolding happens acts delivers receives step view_after story_after
 beside x y frame rest to_network = refl
 
--- RC and parameters after the delivery
-tries_after : (last : Bool) (x y : Station) (frame : Flight) (rest to_network : List Flight)
-    → AreReady (frame ∷ rest) → x.end.state ≡ TimerRecovery
-    → (last || nat_lt x.end.rc x.end.parameters.n200) ≡ true
-    → (world_after (at x y (frame ∷ rest) to_network)
-    (happens Whole (user_move Deliver) (at x y (frame ∷ rest) to_network))).user.end.state
-    ≡ TimerRecovery
-    → (last
-    || nat_lt (world_after (at x y (frame ∷ rest) to_network)
-    (happens Whole (user_move Deliver)
-    (at x y (frame ∷ rest) to_network))).user.end.rc
-    (world_after (at x y (frame ∷ rest) to_network)
-    (happens Whole (user_move Deliver)
-    (at x y (frame ∷ rest) to_network))).user.end.parameters.n200) ≡ true
-unfolding happens acts delivers receives step view_after story_after
-tries_after last x y frame rest to_network ready is tries now =
-    let done =
-    end_step Whole (row Whole x.end.state (Heard frame.control frame.role) (begin x.end)) in
-    let rc : done.end.rc ≡ x.end.rc = same_rc frame.control frame.role x.end ready.0 is now in
-    let parameters : done.end.parameters ≡ x.end.parameters =
-    step_preserves_parameters Whole (Heard frame.control frame.role) x.end done refl in
-    rw (rc, parameters) tries
-
-ready_front : (fs : List Flight) (f : Flight) → AreReady (fs ++ f ∷ []) → AreReady fs
-ready_front [] f ready = tt
-ready_front (g ∷ fs) f ready = (ready.0, ready_front fs f ready.1)
-
-pub lost_user_receives : (last : Bool) (n : ℕ) (x y : Station) (frame : Flight)
-    (rest to_network : List Flight) → UserLost last n (at x y (frame ∷ rest) to_network)
-    → UserLost last (n - 1) (world_after (at x y (frame ∷ rest) to_network)
+pub lost_user_receives : (n : ℕ) (x y : Station) (frame : Flight)
+    (rest to_network : List Flight) → UserLost n (at x y (frame ∷ rest) to_network)
+    → UserLost (n - 1) (world_after (at x y (frame ∷ rest) to_network)
     (happens Whole (user_move Deliver) (at x y (frame ∷ rest) to_network)))
 unfolding happens
-lost_user_receives last n x y frame rest to_network l =
+lost_user_receives n x y frame rest to_network l =
     let w = at x y (frame ∷ rest) to_network in
     let more = rest ++ final_of_peer y ∷ [] in
     let now = world_after w (happens Whole (user_move Deliver) w) in
@@ -172,17 +141,14 @@ lost_user_receives last n x y frame rest to_network l =
     record {
       holds = each_move_preserves (user_move Deliver) w l.holds;
       in_8 = in_8;
-      tries =
-          tries_after last x y frame rest to_network
-          (ready_front (frame ∷ rest) (final_of_peer y) d.sees.arriving) l.in_8 l.tries in_8;
       two = let le = d.sees.flow.most in omega (arith, le);
       drains = subst (λ m. Drains m (with_final now)) fewer here;
     }
 
 -- ---- A frame is delivered to its peer.
 
-module _ (last : Bool) (n : ℕ) (x y : Station) (back : List Flight) (frame : Flight)
-    (rest : List Flight) (l : UserLost last n (at x y back (frame ∷ rest))) where
+module _ (n : ℕ) (x y : Station) (back : List Flight) (frame : Flight)
+    (rest : List Flight) (l : UserLost n (at x y back (frame ∷ rest))) where
   abbrev w : World
   w = at x y back (frame ∷ rest)
 
@@ -279,7 +245,7 @@ module _ (last : Bool) (n : ℕ) (x y : Station) (back : List Flight) (frame : F
       subst (λ r. Stream (source x.end) (sink with.station.end) (kinds r) (kinds with.outgoing)
       seen.flow.b) are.with_rest seen.flow.its
 
-  parts : LostParts last (n - 1) now
+  parts : LostParts (n - 1) now
   parts = record {
     holds = subst IsInvariant same (each_move_preserves (network_move Deliver) w l.holds);
     ends_settled =
@@ -289,7 +255,6 @@ module _ (last : Bool) (n : ℕ) (x y : Station) (back : List Flight) (frame : F
           network = l.drains.ends_settled.network;
         }));
     in_8 = l.in_8;
-    tries = l.tries;
     peer_open = mine_open seen.flow;
     lost = record {
       polls = let one = asked.one in omega (arith, one, finals);
@@ -316,7 +281,7 @@ module _ (last : Bool) (n : ℕ) (x y : Station) (back : List Flight) (frame : F
         omega (arith, le, heavy, one_less, len, k);
   }
 
-  pub lost_peer_receives : UserLost last (n - 1)
+  pub lost_peer_receives : UserLost (n - 1)
       (world_after w (happens Whole (network_move Deliver) w))
   lost_peer_receives =
-      subst (λ v. UserLost last (n - 1) v) (sym same) (lost_so last (n - 1) now parts)
+      subst (λ v. UserLost (n - 1) v) (sym same) (lost_so (n - 1) now parts)

@@ -1,5 +1,5 @@
 -- An open line with no frame in transit drains from its start, and where it rests its ends agree.
-use Rattle.std.proofs.Common.{◌≡◌, inl, inr, ℕ, ◌+◌, ◌≤◌, nat_lt, ◌||◌, Bool, true, false, List, [], ◌∷◌, refl, sym, arith}
+use Rattle.std.proofs.Common.{◌≡◌, inl, inr, ℕ, ◌+◌, ◌≤◌, Bool, true, false, List, [], ◌∷◌, refl, sym, arith}
 use Rattle.lapd_mod128.specs.Counting.{Whole}
 use Rattle.lapd_link_definition.specs.declared.state.State.{State}
 use Rattle.lapd_link_definition.specs.declared.state.State.TheVariants.{MultipleFrameEstablished, TimerRecovery}
@@ -30,11 +30,9 @@ same_in_transit false low end same = same
 same_in_transit true low end same = same
 
 module _ (x y : Station) (i : IsInvariant (at x y [] []))
-    (ends_settled : AreSettledEnds (at x y [] [])) (last : Bool)
+    (ends_settled : AreSettledEnds (at x y [] []))
     (x_opened : is_7_or_8 x.end.state ≡ true) (y_opened : is_7_or_8 y.end.state ≡ true)
     (x_free : x.end.window.own_busy ≡ false) (y_free : y.end.window.own_busy ≡ false)
-    (x_tries : x.end.state ≡ TimerRecovery → (last || nat_lt x.end.rc x.end.parameters.n200) ≡ true)
-    (y_tries : y.end.state ≡ TimerRecovery → (last || nat_lt y.end.rc y.end.parameters.n200) ≡ true)
     (a b n : ℕ)
     (stream_x : x.end.state ≡ MultipleFrameEstablished → Stream (source x.end) (sink y.end) [] [] a)
     (stream_y : y.end.state ≡ MultipleFrameEstablished → Stream (source y.end) (sink x.end) [] [] b)
@@ -64,12 +62,11 @@ module _ (x y : Station) (i : IsInvariant (at x y [] []))
   }
 
   user_in_8 : x.end.state ≡ TimerRecovery → y.end.state ≡ MultipleFrameEstablished
-      → UserLost last n begun
-  user_in_8 is its_is = lost_so last n begun (record {
+      → UserLost n begun
+  user_in_8 is its_is = lost_so n begun (record {
     holds = i;
     ends_settled = ends_settled;
     in_8 = is;
-    tries = x_tries is;
     peer_open = y_opened;
     lost = record { polls = refl; finals = refl; no_message = refl };
     b = b;
@@ -82,12 +79,11 @@ module _ (x y : Station) (i : IsInvariant (at x y [] []))
   })
 
   network_in_8 : x.end.state ≡ MultipleFrameEstablished → y.end.state ≡ TimerRecovery
-      → UserLost last n (swapped begun)
-  network_in_8 is its_is = lost_so last n (swapped begun) (record {
+      → UserLost n (swapped begun)
+  network_in_8 is its_is = lost_so n (swapped begun) (record {
     holds = exchanged begun i;
     ends_settled = record { user = ends_settled.network; network = ends_settled.user };
     in_8 = its_is;
-    tries = y_tries its_is;
     peer_open = x_opened;
     lost = record { polls = refl; finals = refl; no_message = refl };
     b = a;
@@ -99,7 +95,7 @@ module _ (x y : Station) (i : IsInvariant (at x y [] []))
     most = let le = all in let heavy = burden_y in omega (arith, le, heavy);
   })
 
-  both_in_8 : x.end.state ≡ TimerRecovery → y.end.state ≡ TimerRecovery → BothLost last n begun
+  both_in_8 : x.end.state ≡ TimerRecovery → y.end.state ≡ TimerRecovery → BothLost n begun
   both_in_8 is its_is = record {
     to_user = refl;
     to_network = refl;
@@ -107,8 +103,6 @@ module _ (x y : Station) (i : IsInvariant (at x y [] []))
     ends_settled = ends_settled;
     user_in_8 = is;
     network_in_8 = its_is;
-    user_tries = x_tries is;
-    network_tries = y_tries its_is;
     user_idle = x_free;
     network_idle = y_free;
     most =
@@ -116,11 +110,11 @@ module _ (x y : Station) (i : IsInvariant (at x y [] []))
         let heavy = burden_x in let heavy_too = burden_y in omega (arith, le, heavy, heavy_too);
   }
 
-  pub draining_from : Draining last n begun
+  pub draining_from : Draining n begun
   draining_from = by_states x.end.state y.end.state refl refl x_opened y_opened
     where
       by_states : (one other : State) → x.end.state ≡ one → y.end.state ≡ other
-          → is_7_or_8 one ≡ true → is_7_or_8 other ≡ true → Draining last n begun
+          → is_7_or_8 one ≡ true → is_7_or_8 other ≡ true → Draining n begun
       by_states MultipleFrameEstablished MultipleFrameEstablished is its_is o p =
           inl (both_in_7 is its_is)
       by_states TimerRecovery MultipleFrameEstablished is its_is o p =

@@ -413,7 +413,7 @@ module _ (N : ℕ) (some_retries : 1 ≤ N) where
   coming_swapped n w c = record { some = c.some; arriving = by_coming c.arriving }
     where
       by_coming : Coming N (n - 1) w → Coming N (n - 1) (swapped w)
-      by_coming (inl d) = inl (draining_swapped true (n - 1) w d)
+      by_coming (inl d) = inl (draining_swapped (n - 1) w d)
       by_coming (inr (inl l)) = inr (inr l)
       by_coming (inr (inr l)) = inr (inl l)
 
@@ -499,7 +499,7 @@ module _ (N : ℕ) (some_retries : 1 ≤ N) where
               })));
         }
 
-    last_try : Draining true n (at x y [] []) → ComesOn N n then
+    last_try : Draining n (at x y [] []) → ComesOn N n then
     last_try (inl d) =
         let in_7 = in_state_7 (source x.end) (sink y.end) d.sees.flow.a d.sees.flow.mine in
         absurd (let impossible : TimerRecovery ≡ MultipleFrameEstablished = sym is ∙ in_7 in cc)
@@ -513,17 +513,17 @@ module _ (N : ℕ) (some_retries : 1 ≤ N) where
         let its =
         stream_unsent (source y.end) (sink x.end) (Final y.end.window.vr ∷ []) [] flow.b
         flow.its in
-        let in_7 = in_state_7 (source y.end) (sink x.end) flow.b (stream true n x y l) in
+        let in_7 = in_state_7 (source y.end) (sink x.end) flow.b (stream n x y l) in
         asks (ap is_7_or_8 in_7) (omega (arith, le, two, heavy, its))
     last_try (inr (inr (inl l))) =
         let in_7 =
-        in_state_7 (source x.end) (sink y.end) l.drains.sees.flow.b (stream true n y x l) in
+        in_state_7 (source x.end) (sink y.end) l.drains.sees.flow.b (stream n y x l) in
         absurd (let impossible : TimerRecovery ≡ MultipleFrameEstablished = sym is ∙ in_7 in cc)
     last_try (inr (inr (inr l))) =
         let le = l.most in asks (ap is_7_or_8 l.network_in_8) (omega (arith, le))
 
   last_try_at : (n : ℕ) (x y : Station) (to_user to_network : List Flight)
-      → Draining true n (at x y to_user to_network)
+      → Draining n (at x y to_user to_network)
       → is_line_empty (at x y to_user to_network) ≡ true → x.end.state ≡ TimerRecovery
       → tries x.end ≡ false → x.end.t200 ≡ true
       → ComesOn N n (by_user Expire200 x y to_user to_network)
@@ -533,14 +533,14 @@ module _ (N : ℕ) (some_retries : 1 ≤ N) where
 
   -- ---- Any own move.
 
-  from_draining : (n : ℕ) (s : Side) (event : PairEvent) (w : World) → Draining true n w
-      → (event ≡ Expire200 → MayRetry true (view_of s w).station.end) → Facts N w
+  from_draining : (n : ℕ) (s : Side) (event : PairEvent) (w : World) → Draining n w
+      → (event ≡ Expire200 → MayRetry (view_of s w).station.end) → Facts N w
       → IsOwn Whole (record { side = s; event = event }) w → ComesOn N n (after s event w)
   from_draining n s event w d may f own =
-      let m = own_moves_on true n (record { side = s; event = event }) w d may f.have own in
+      let m = own_moves_on n (record { side = s; event = event }) w d may f.have own in
       record { some = m.some; arriving = inl m.draining }
 
-  user_t200_open : (n : ℕ) (w : World) → Draining true n w → Facts N w
+  user_t200_open : (n : ℕ) (w : World) → Draining n w → Facts N w
       → IsOwn Whole (user_move Expire200) w → ComesOn N n (after side.User Expire200 w)
   user_t200_open n w d f own = by_tries (tries w.user.end) refl
     where
@@ -552,24 +552,24 @@ module _ (N : ℕ) (some_retries : 1 ≤ N) where
           (t200_runs (view_of side.User w) (ok_of_side side.User Expire200 w own.admitted)))
       by_state MultipleFrameEstablished is last =
           from_draining n side.User Expire200 w d
-          (λ _ _ in_8. absurd
+          (λ _ in_8. absurd
           (let impossible : MultipleFrameEstablished ≡ TimerRecovery = sym is ∙ in_8 in cc)) f own
       by_state TeiAssigned is last =
           from_draining n side.User Expire200 w d
-          (λ _ _ in_8. absurd (let impossible : TeiAssigned ≡ TimerRecovery =
+          (λ _ in_8. absurd (let impossible : TeiAssigned ≡ TimerRecovery =
           sym is ∙ in_8 in cc)) f own
       by_state AwaitingEstablishment is last =
           from_draining n side.User Expire200 w d
-          (λ _ _ in_8. absurd
+          (λ _ in_8. absurd
           (let impossible : AwaitingEstablishment ≡ TimerRecovery = sym is ∙ in_8 in cc)) f own
       by_state AwaitingRelease is last =
           from_draining n side.User Expire200 w d
-          (λ _ _ in_8. absurd (let impossible : AwaitingRelease ≡ TimerRecovery =
+          (λ _ in_8. absurd (let impossible : AwaitingRelease ≡ TimerRecovery =
           sym is ∙ in_8 in cc)) f
           own
 
       by_tries : (b : Bool) → tries w.user.end ≡ b → ComesOn N n (after side.User Expire200 w)
-      by_tries true more = from_draining n side.User Expire200 w d (λ _ _ _. more) f own
+      by_tries true more = from_draining n side.User Expire200 w d (λ _ _. more) f own
       by_tries false last = by_state w.user.end.state refl last
 
   own_of_swapped : (w : World) → IsOwn Whole (network_move Expire200) w
@@ -590,7 +590,7 @@ module _ (N : ℕ) (some_retries : 1 ≤ N) where
   coming_moves n side.User Expire200 w (inl d) f own = user_t200_open n w d f own
   coming_moves n side.Network Expire200 w (inl d) f own =
       to_network_of n Expire200 w (user_t200_open n
-      (swapped w) (draining_swapped true n w d) (facts_swapped N w f) (own_of_swapped w own))
+      (swapped w) (draining_swapped n w d) (facts_swapped N w f) (own_of_swapped w own))
   coming_moves n s Deliver w (inl d) f own = from_draining n s Deliver w d (λ is. cc) f own
   coming_moves n s Expire203 w (inl d) f own = from_draining n s Expire203 w d (λ is. cc) f own
   coming_moves n s event w (inl d) f own = let due = own.due in cc

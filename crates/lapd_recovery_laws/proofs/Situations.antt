@@ -211,7 +211,7 @@ module _ (N : ℕ) where
     closed : Closed n w → Half n w
 
   abbrev pub Coming : ℕ → World → Type 0
-  Coming n w = Draining true n w ⊎ (Half n w ⊎ Half n (swapped w))
+  Coming n w = Draining n w ⊎ (Half n w ⊎ Half n (swapped w))
 
   pub record ComesOn (n : ℕ) (now : World) : Type 0 where
     pub some : 1 ≤ n
