@@ -37,6 +37,49 @@ pub record Keeps (N l : ℕ) (w : World) : Type 0 where
   pub network_free : IsFree w.network.end
   pub few : waiting w.user.end + waiting w.network.end ≤ l
 
+-- after a move by which no more messages wait, and no end gets busy
+keeps_after : (N l : ℕ) (s : Side) (event : PairEvent) (w : World) → Keeps N l w
+    → waiting (after s event w).user.end ≤ waiting w.user.end
+    → waiting (after s event w).network.end ≤ waiting w.network.end
+    → (IsFree w.user.end → IsFree (after s event w).user.end)
+    → (IsFree w.network.end → IsFree (after s event w).network.end) → Keeps N l (after s event w)
+keeps_after N l s event w k u v free its_free =
+    let few = k.few in
+    record {
+      facts = facts_after N (record { side = s; event = event }) w k.facts;
+      preserved = run_consistent Whole (record { side = s; event = event } ∷ []) w k.preserved;
+      user_free = free k.user_free;
+      network_free = its_free k.network_free;
+      few = omega (arith, few, u, v);
+    }
+
+pub kept_delivered : (N l : ℕ) (s : Side) (w : World) → Keeps N l w
+    → is_ok (happens Whole (record { side = s; event = Deliver }) w) ≡ true
+    → Keeps N l (after s Deliver w)
+kept_delivered N l s w k ok =
+    let d =
+    runs.delivery_flows N (most_deliveries w) s w k.facts
+    (runs.flow_begins w k.facts.holds k.preserved) ok in
+    keeps_after N l s Deliver w k d.user_fewer d.network_fewer d.user_free d.network_free
+
+pub kept_expired : (N l m : ℕ) (s : Side) (event : PairEvent) (w : World) → Keeps N l w
+    → ExpiresBeside m w (after s event w) → Keeps N l (after s event w)
+kept_expired N l m s event w k e =
+    keeps_after N l s event w k e.user_fewer e.network_fewer e.user_free e.network_free
+
+pub kept_lost : (N l i : ℕ) (s : Side) (w : World) → Keeps N l w
+    → is_ok (happens Whole (record { side = s; event = Lose i }) w) ≡ true
+    → Keeps N l (after s (Lose i) w)
+kept_lost N l i s w k ok =
+    let f =
+    frame_lost i (most_deliveries w) s w k.facts.holds
+    (runs.flow_begins w k.facts.holds k.preserved) ok in
+    let now = after s (Lose i) w in
+    let u : waiting now.user.end ≡ waiting w.user.end = ap waiting f.user in
+    let v : waiting now.network.end ≡ waiting w.network.end = ap waiting f.network in
+    keeps_after N l s (Lose i) w k (omega (arith, u)) (omega (arith, v))
+    (λ free. subst IsFree (sym f.user) free) (λ free. subst IsFree (sym f.network) free)
+
 -- a weight of the world, at most n and a fixed number
 pub record Weighs (most : ℕ) (Weight : ℕ → World → Type 0) (n : ℕ) (w : World) : Type 0 where
   pub m : ℕ
@@ -101,20 +144,10 @@ module _ (N l most : ℕ) (Holds Weight : ℕ → World → Type 0)
     by_flow : (m : ℕ) → Flow m w → IsDelivered m delivered
     by_flow m flow =
         let d = runs.delivery_flows N m s w k.facts flow own.admitted in
-        let few = k.few in
-        let u = d.user_fewer in
-        let v = d.network_fewer in
         record {
           some_left = d.some;
           flow = d.flow;
-          keeps = record {
-            facts = facts_after N (record { side = s; event = Deliver }) w k.facts;
-            preserved =
-                run_consistent Whole (record { side = s; event = Deliver } ∷ []) w k.preserved;
-            user_free = d.user_free k.user_free;
-            network_free = d.network_free k.network_free;
-            few = omega (arith, few, u, v);
-          };
+          keeps = kept_delivered N l s w k own.admitted;
         }
 
     pub deliver : Empties n w ⊎ Returns n w → Falls n delivered
@@ -176,17 +209,8 @@ module _ (N l most : ℕ) (Holds Weight : ℕ → World → Type 0)
       let c = h.falls b r.m s event w r.weight k held own in
       let one = c.some_left in
       let most_few = r.few in
-      let few = k.few in
-      let u = x.user_fewer in
-      let v = x.network_fewer in
       let sent = x.one_more in
-      let still : Keeps N l now = record {
-        facts = facts_after N (record { side = s; event = event }) w k.facts;
-        preserved = run_consistent Whole (record { side = s; event = event } ∷ []) w k.preserved;
-        user_free = x.user_free k.user_free;
-        network_free = x.network_free k.network_free;
-        few = omega (arith, few, u, v);
-      } in
+      let still = kept_expired N l m s event w k x in
       record {
         some_left = omega (arith, one, most_few);
         keeps = still;
@@ -244,17 +268,7 @@ module _ (N l most : ℕ) (Holds Weight : ℕ → World → Type 0)
           let f = frame_lost i m s w k.facts.holds flow ok in
           let few = k.few in
           record {
-            keeps = record {
-              facts = facts_after N (record { side = s; event = Lose i }) w k.facts;
-              preserved =
-                  run_consistent Whole (record { side = s; event = Lose i } ∷ []) w k.preserved;
-              user_free = subst IsFree (sym f.user) k.user_free;
-              network_free = subst IsFree (sym f.network) k.network_free;
-              few =
-                  let u : waiting now.user.end ≡ waiting w.user.end = ap waiting f.user in
-                  let v : waiting now.network.end ≡ waiting w.network.end = ap waiting f.network in
-                  omega (arith, few, u, v);
-            };
+            keeps = kept_lost N l i s w k ok;
             holds = h.loss_holds b i s w bounds.holds ok;
             phase =
                 inl (record {

@@ -6,14 +6,12 @@ use Rattle.lapd_mod128.specs.Counting.{Whole}
 use Rattle.lapd_link_definition.specs.End.{waiting}
 use Rattle.lapd_pair_laws.specs.Move.{PairEvent, Deliver, Lose, Expire200, Expire203, Move}
 use Rattle.lapd_pair_laws.specs.World.{World, view_of, run}
-use Rattle.lapd_pair_laws.proofs.Consistency.{run_consistent}
 use Rattle.lapd_recovery_laws.specs.Deliveries.{most_deliveries}
 use Rattle.lapd_recovery_laws.specs.EarlyTimers.{IsLineMove, AreLineMoves, is_early, earlies, overtaken_by, overtaken}
 use Rattle.lapd_recovery_laws.specs.Losses.{is_loss, one_if, losses}
 use Rattle.lapd_recovery_laws.specs.Own.{is_due}
-use Rattle.lapd_recovery_laws.proofs.AfterOutage.{facts_after}
 use Rattle.lapd_recovery_laws.proofs.CountedMoves as counted
-use Rattle.lapd_recovery_laws.proofs.CountedMoves.{Keeps, IsWeight, after, flow_more}
+use Rattle.lapd_recovery_laws.proofs.CountedMoves.{kept_expired, Keeps, IsWeight, after, flow_more}
 use Rattle.lapd_recovery_laws.proofs.RunsEmpty as runs
 use Rattle.lapd_recovery_laws.proofs.RunsEmpty.{Flow}
 use Rattle.lapd_recovery_laws.proofs.TimersBeside.{ExpiresBeside, t200_early, t203_early}
@@ -55,17 +53,10 @@ module _ (N l most : ℕ) (Weight : ℕ → World → Type 0)
         let kept = k.keeps in
         let e = expires m flow in
         let few = kept.few in
-        let u = e.user_fewer in
-        let v = e.network_fewer in
         record {
-          keeps = record {
-            facts = facts_after N (record { side = s; event = event }) w kept.facts;
-            preserved =
-                run_consistent Whole (record { side = s; event = event } ∷ []) w kept.preserved;
-            user_free = e.user_free kept.user_free;
-            network_free = e.network_free kept.network_free;
-            few = omega (arith, few, u, v);
-          };
+          keeps =
+              kept_expired N l (m + 3 * waiting w.user.end + 3 * waiting w.network.end + 6 + late) s
+              event w kept e;
           phase = inl (record {
             m = m + 3 * l + 6 + late;
             flow =

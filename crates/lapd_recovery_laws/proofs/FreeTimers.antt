@@ -13,7 +13,6 @@ use Rattle.lapd_pair_laws.specs.Kinds.{kinds, tally, final_of}
 use Rattle.lapd_pair_laws.specs.Line.{Flight}
 use Rattle.lapd_pair_laws.specs.Move.{PairEvent, Deliver, Lose, Expire200, Expire203, Move, Station, acts}
 use Rattle.lapd_pair_laws.specs.World.{World, swapped, view_of, happens, left}
-use Rattle.lapd_pair_laws.proofs.Consistency.{run_consistent}
 use Rattle.lapd_pair_laws.proofs.MidSteps.{open_asks_none}
 use Rattle.lapd_pair_laws.proofs.Swaps.{network_alike}
 use Rattle.lapd_recovery_laws.specs.Deliveries.{frames, most_deliveries}
@@ -22,11 +21,10 @@ use Rattle.lapd_recovery_laws.specs.FewLosses.{t200s, t203s}
 use Rattle.lapd_recovery_laws.specs.FreeTimers.{most_t200s_from}
 use Rattle.lapd_recovery_laws.specs.Losses.{is_loss, one_if, losses}
 use Rattle.lapd_recovery_laws.specs.Own.{IsFree}
-use Rattle.lapd_recovery_laws.proofs.AfterOutage.{facts_after}
 use Rattle.lapd_recovery_laws.proofs.AnyOrder.{none_there, none_there_too}
 use Rattle.lapd_recovery_laws.proofs.Controls.{Controls, controls_turned, vain_few, Rest, rest_turned, Goes, goes_turned, user_goes}
 use Rattle.lapd_recovery_laws.proofs.ControlsOfTimers.{Goes200, expires_200, expires_203}
-use Rattle.lapd_recovery_laws.proofs.CountedMoves.{after, Keeps}
+use Rattle.lapd_recovery_laws.proofs.CountedMoves.{after, Keeps, kept_delivered, kept_expired}
 use Rattle.lapd_recovery_laws.proofs.Expiries.{unready}
 use Rattle.lapd_recovery_laws.proofs.Lost.{at}
 use Rattle.lapd_recovery_laws.proofs.LostMoves.{moved_user}
@@ -35,42 +33,7 @@ use Rattle.lapd_recovery_laws.proofs.OutageWorlds.{Facts, facts_swapped}
 use Rattle.lapd_recovery_laws.proofs.OwnBySide.{ok_of_side}
 use Rattle.lapd_recovery_laws.proofs.Renewals.{halting, halting_few, unready_halting, Renews, request_in, request_few, open_requests_none, under_way}
 use Rattle.lapd_recovery_laws.proofs.RunsEmpty as runs
-use Rattle.lapd_recovery_laws.proofs.TimersBeside.{ExpiresBeside, t200_early, t203_early}
-
--- ---- What each move keeps.
-
-kept_delivered : (N l : ℕ) (s : Side) (w : World) → Keeps N l w
-    → is_ok (happens Whole (record { side = s; event = Deliver }) w) ≡ true
-    → Keeps N l (after s Deliver w)
-kept_delivered N l s w k ok =
-    let d =
-    runs.delivery_flows N (most_deliveries w) s w k.facts
-    (runs.flow_begins w k.facts.holds k.preserved) ok in
-    let few = k.few in
-    let u = d.user_fewer in
-    let v = d.network_fewer in
-    record {
-      facts = facts_after N (record { side = s; event = Deliver }) w k.facts;
-      preserved =
-          run_consistent Whole (record { side = s; event = Deliver } ∷ []) w k.preserved;
-      user_free = d.user_free k.user_free;
-      network_free = d.network_free k.network_free;
-      few = omega (arith, few, u, v);
-    }
-
-kept_expired : (N l m : ℕ) (s : Side) (event : PairEvent) (w : World) → Keeps N l w
-    → ExpiresBeside m w (after s event w) → Keeps N l (after s event w)
-kept_expired N l m s event w k e =
-    let few = k.few in
-    let u = e.user_fewer in
-    let v = e.network_fewer in
-    record {
-      facts = facts_after N (record { side = s; event = event }) w k.facts;
-      preserved = run_consistent Whole (record { side = s; event = event } ∷ []) w k.preserved;
-      user_free = e.user_free k.user_free;
-      network_free = e.network_free k.network_free;
-      few = omega (arith, few, u, v);
-    }
+use Rattle.lapd_recovery_laws.proofs.TimersBeside.{t200_early, t203_early}
 
 -- ---- One move.
 

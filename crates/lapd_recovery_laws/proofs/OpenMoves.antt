@@ -12,7 +12,6 @@ use Rattle.lapd_pair_laws.specs.Line.{Flight, without_lost}
 use Rattle.lapd_pair_laws.specs.Move.{PairEvent, Deliver, Lose, Expire200, Expire203, Move, Station, View, acts}
 use Rattle.lapd_pair_laws.specs.Parties.{party}
 use Rattle.lapd_pair_laws.specs.World.{World, swapped, view_of, with_view, happens, left}
-use Rattle.lapd_pair_laws.proofs.Consistency.{run_consistent}
 use Rattle.lapd_pair_laws.proofs.Swaps.{network_alike}
 use Rattle.lapd_pair_laws.proofs.WorkOfActions.{is_ready}
 use Rattle.lapd_recovery_laws.specs.Deliveries.{frames, most_deliveries}
@@ -22,7 +21,7 @@ use Rattle.lapd_recovery_laws.specs.Losses.{is_loss, one_if, losses}
 use Rattle.lapd_recovery_laws.specs.Own.{IsFree}
 use Rattle.lapd_recovery_laws.proofs.AfterOutage.{facts_after}
 use Rattle.lapd_recovery_laws.proofs.AnyOrder.{none_there, none_there_too}
-use Rattle.lapd_recovery_laws.proofs.CountedMoves.{after, Keeps, flow_more}
+use Rattle.lapd_recovery_laws.proofs.CountedMoves.{kept_delivered, kept_expired, kept_lost, after, Keeps, flow_more}
 use Rattle.lapd_recovery_laws.proofs.Expiries.{unready, one_if_few, waits_few, asked_by, Expects, expiries_turned, view_delivered}
 use Rattle.lapd_recovery_laws.proofs.ExpiriesOfTimers.{Expires, t200_falls, t203_still}
 use Rattle.lapd_recovery_laws.proofs.LosesFrame.{frame_lost, user_loses}
@@ -175,20 +174,10 @@ module _ (N l : ℕ) where
       → (1 ≤ m) × Within b (m - 1) n (after s Deliver w)
   delivered b m n s w k ok =
       let kept = k.keeps in
-      let d = runs.delivery_flows N m s w kept.facts k.flow ok in
-      let few = kept.few in
-      let u = d.user_fewer in
-      let v = d.network_fewer in (
+      let d = runs.delivery_flows N m s w kept.facts k.flow ok in (
         d.some,
         record {
-          keeps = record {
-            facts = facts_after N (record { side = s; event = Deliver }) w kept.facts;
-            preserved =
-                run_consistent Whole (record { side = s; event = Deliver } ∷ []) w kept.preserved;
-            user_free = d.user_free kept.user_free;
-            network_free = d.network_free kept.network_free;
-            few = omega (arith, few, u, v);
-          };
+          keeps = kept_delivered N l s w kept ok;
           lasts =
               (deliver N b s w.user w.network w.to_user w.to_network kept.facts k.lasts ok).lasts;
           flow = d.flow;
@@ -204,17 +193,10 @@ module _ (N l : ℕ) where
       → Within b (m + 3 * l + 6) n (after s event w)
   expired b m n s event w kept e lasts expires =
       let few = kept.few in
-      let u = e.user_fewer in
-      let v = e.network_fewer in
       record {
-        keeps = record {
-          facts = facts_after N (record { side = s; event = event }) w kept.facts;
-          preserved =
-              run_consistent Whole (record { side = s; event = event } ∷ []) w kept.preserved;
-          user_free = e.user_free kept.user_free;
-          network_free = e.network_free kept.network_free;
-          few = omega (arith, few, u, v);
-        };
+        keeps =
+            kept_expired N l (m + 3 * waiting w.user.end + 3 * waiting w.network.end + 6) s event w
+            kept e;
         lasts = lasts;
         flow =
             flow_more (m + 3 * waiting w.user.end + 3 * waiting w.network.end + 6)
@@ -237,14 +219,7 @@ module _ (N l : ℕ) where
       let less = lost_unready i s w ok in
       let most = k.expires.most in
       record {
-        keeps = record {
-          facts = facts;
-          preserved =
-              run_consistent Whole (record { side = s; event = Lose i } ∷ []) w kept.preserved;
-          user_free = subst IsFree (sym f.user) kept.user_free;
-          network_free = subst IsFree (sym f.network) kept.network_free;
-          few = omega (arith, few, u, v);
-        };
+        keeps = kept_lost N l i s w kept ok;
         lasts = lasts;
         flow =
             flow_more (m + waiting w.user.end + waiting w.network.end) (m + l) now
