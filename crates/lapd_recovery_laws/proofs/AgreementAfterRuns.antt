@@ -17,9 +17,9 @@ use Rattle.lapd_pair_laws.specs.Move.{PairEvent, Move}
 use Rattle.lapd_pair_laws.specs.Tagged.{tag_flight, tag_world}
 use Rattle.lapd_pair_laws.specs.World.{World, new_world, world_after, happens, run, left}
 use Rattle.lapd_pair_laws.proofs.Consistency.{run_consistent}
-use Rattle.lapd_pair_laws.proofs.Reached.{reached_tags}
 use Rattle.lapd_pair_laws.proofs.TaggedMoves.{left_on_tags}
 use Rattle.lapd_pair_laws.proofs.Whole.{each_move_preserves}
+use Rattle.lapd_recovery_laws.proofs.RunsEmpty.{after_runs}
 use Rattle.lapd_recovery_laws.specs.Agreed.{AreReleased}
 use Rattle.lapd_recovery_laws.specs.Deliveries.{frames}
 use Rattle.lapd_recovery_laws.specs.EarlyTimers.{is_early, overtaken, most_line_moves}
@@ -154,45 +154,27 @@ keeps_on_tags N w i preserved k = record {
         subst AreInAgreement (sym (ran_on_tags moves w i preserved))
         (in_agreement_on_tags (run Whole moves w) a)
 
-module _ (N : ℕ) (some : 1 ≤ N) (user network : Parameters) (user_small : user.k ≤ 127)
-    (network_small : network.k ≤ 127) (user_some : 1 ≤ user.k) (network_some : 1 ≤ network.k)
-    (moves : List Move) where
-  abbrev reached : World
-  reached = run Whole moves (new_world user network)
+abbrev Law : ℕ → Reading → World → Type 0
+Law N Whole w = Kept N w
+Law N Tagged w = KeepsAgreement Tagged N w
 
-  holds : IsInvariant reached
-  holds = runs.holds user network user_small network_small moves
-
-  preserved : IsConsistentWorld Whole reached
-  preserved = runs.preserved user network user_small network_small moves
-
-  kept_whole : IsFreeWorld N reached → Kept N reached
-  kept_whole a =
-      let facts =
-      runs.facts user network user_small network_small moves user_some network_some N
-      a.user_retries a.network_retries in
-      world_keeps N reached (record { facts = facts; preserved = preserved })
-      (despite_timers N some reached facts preserved a.user_free a.network_free)
-
-  kept_by : (r : Reading) → IsFreeWorld N (run r moves (new_world user network))
-      → KeepsAgreement r N (run r moves (new_world user network))
-  kept_by Whole a =
-      let k = kept_whole a in
-      record {
-        reached = k.reached;
-        idle = k.in_step;
-        kept = λ agreed own_moves own none. k.kept (settled N reached agreed) own_moves own none;
-      }
-  kept_by Tagged a =
-      let same : run Tagged moves (new_world user network) ≡ tag_world reached =
-      reached_tags user network user_small network_small moves in
-      subst (λ w. KeepsAgreement Tagged N w) (sym same)
-      (keeps_on_tags N reached holds preserved
-      (kept_whole (free_world_by_tags N reached (subst (λ w. IsFreeWorld N w) same a))))
+by_law : (N : ℕ) (r : Reading) (w : World) → Law N r w → KeepsAgreement r N w
+by_law N Whole w k = record {
+  reached = k.reached;
+  idle = k.in_step;
+  kept = λ agreed own_moves own none. k.kept (settled N w agreed) own_moves own none;
+}
+by_law N Tagged w k = k
 
 pub every_agreement_is_kept : (r : Reading) (n200 : ℕ) → 1 ≤ n200 → (user network : Parameters)
     → user.k ≤ 127 → network.k ≤ 127 → 1 ≤ user.k → 1 ≤ network.k → (moves : List Move)
     → IsFreeWorld n200 (run r moves (new_world user network))
     → KeepsAgreement r n200 (run r moves (new_world user network))
 every_agreement_is_kept r n200 some user network u n us ns moves a =
-    kept_by n200 some user network u n us ns moves r a
+    by_law n200 r (run r moves (new_world user network))
+    (after_runs (λ w. IsFreeWorld n200 w) (Law n200)
+    (λ w facts preserved a. let f =
+    facts n200 a.user_retries a.network_retries in
+    world_keeps n200 w (record { facts = f; preserved = preserved })
+    (despite_timers n200 some w f preserved a.user_free a.network_free))
+    (free_world_by_tags n200) (keeps_on_tags n200) r user network u n us ns moves a)

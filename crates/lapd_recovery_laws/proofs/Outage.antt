@@ -39,38 +39,23 @@ use Rattle.lapd_recovery_laws.proofs.OutageWorlds.{Facts, facts_swapped, empty_5
 module _ (N : ℕ) (some_retries : 1 ≤ N) where
   -- ---- Both ends are closed: T200 of the user expires.
 
+  peer_few : (state : State) (a g r sends leaves : ℕ)
+      → (state ≡ AwaitingEstablishment → (g ≤ leaves) × (r ≤ sends))
+      → by_peer_5 N state (a + g + r) a ≤ a + sends + leaves
+  peer_few TeiAssigned a g r sends leaves both = omega arith
+  peer_few AwaitingEstablishment a g r sends leaves both =
+      let b = both refl in let p = b.0 in let q = b.1 in omega (arith, p, q)
+  peer_few AwaitingRelease a g r sends leaves both = omega arith
+  peer_few MultipleFrameEstablished a g r sends leaves both = omega arith
+  peer_few TimerRecovery a g r sends leaves both = omega arith
+
   peer_bound : (n : ℕ) (x y : Station) (s : Closed N n (at x y [] []))
       → x.end.state ≡ AwaitingEstablishment
       → by_peer_5 N y.end.state (attempt y.end + gone N y.end + again N x.end) (attempt y.end)
       ≤ attempt y.end + s.sends + s.leaves
-  peer_bound n x y s is = by_state y.end.state refl s.network
-    where
-      by_state : (state : State) → y.end.state ≡ state → is_7_or_8 state ≡ false
-          → by_peer_5 N y.end.state (attempt y.end + gone N y.end + again N x.end) (attempt y.end)
-          ≤ attempt y.end + s.sends + s.leaves
-      by_state TeiAssigned its_is c =
-          let none : by_peer_5 N y.end.state (attempt y.end + gone N y.end + again N x.end)
-          (attempt y.end) ≡ 0 =
-          ap
-          (λ st. by_peer_5 N st (attempt y.end + gone N y.end + again N x.end) (attempt y.end))
-          its_is in
-          omega (arith, none)
-      by_state AwaitingEstablishment its_is c =
-          let all : by_peer_5 N y.end.state (attempt y.end + gone N y.end + again N x.end)
-          (attempt y.end) ≡ attempt y.end + gone N y.end + again N x.end =
-          ap
-          (λ st. by_peer_5 N st (attempt y.end + gone N y.end + again N x.end) (attempt y.end))
-          its_is in
-          let b = s.both is its_is in let p = b.0 in let q = b.3 in omega (arith, all, p, q)
-      by_state AwaitingRelease its_is c =
-          let only : by_peer_5 N y.end.state (attempt y.end + gone N y.end + again N x.end)
-          (attempt y.end) ≡ attempt y.end =
-          ap
-          (λ st. by_peer_5 N st (attempt y.end + gone N y.end + again N x.end) (attempt y.end))
-          its_is in
-          omega (arith, only)
-      by_state MultipleFrameEstablished its_is c = cc
-      by_state TimerRecovery its_is c = cc
+  peer_bound n x y s is =
+      peer_few y.end.state (attempt y.end) (gone N y.end) (again N x.end) s.sends s.leaves
+      (λ its_is. let b = s.both is its_is in (b.3, b.0))
 
   module _ (n : ℕ) (x y : Station) (s : Closed N n (at x y [] []))
       (on : x.end.t200 ≡ true) where
