@@ -240,15 +240,36 @@ polls_few N TimerRecovery t200 left few = omega (arith, few)
 polls_few N state true left few = omega arith
 polls_few N state t200 left few = omega arith
 
--- p and q are at least as many messages as are unsent
-module _ (N : ℕ) (some : 1 ≤ N) (x y : Station) (p q : ℕ) (mine : unsent x.end ≤ p)
-    (its : unsent y.end ≤ q) (few_x : x.end.parameters.n200 ≤ N)
+-- a bound of two numbers that are 0, or k with what follows then
+record Either (P : Type 0) (a b k : ℕ) : Type 0 where
+  value : ℕ
+  first : a ≤ value
+  second : b ≤ value
+  one : (value ≡ 0) ⊎ ((value ≡ k) × P)
+
+at_most : (P : Type 0) (a k : ℕ) → (a ≡ 0) ⊎ ((a ≡ k) × P) → a ≤ k
+at_most P a k (inl none) = omega (arith, none)
+at_most P a k (inr some) = let e = some.0 in omega (arith, e)
+
+either_of : {P : Type 0} (a b k : ℕ) → (a ≡ 0) ⊎ ((a ≡ k) × P) → (b ≡ 0) ⊎ ((b ≡ k) × P)
+    → Either P a b k
+either_of {P = P} a b k (inl x) (inl y) =
+    record { value = 0; first = omega (arith, x); second = omega (arith, y); one = inl refl }
+either_of {P = P} a b k (inl x) (inr y) =
+    let f = at_most P a k (inl x) in
+    let s = at_most P b k (inr y) in
+    record { value = k; first = f; second = s; one = inr (refl, y.1) }
+either_of {P = P} a b k (inr x) y =
+    let f = at_most P a k (inr x) in
+    let s = at_most P b k y in record { value = k; first = f; second = s; one = inr (refl, x.1) }
+
+module _ (N : ℕ) (some : 1 ≤ N) (x y : Station) (few_x : x.end.parameters.n200 ≤ N)
     (few_y : y.end.parameters.n200 ≤ N) where
   abbrev w : World
   w = at x y [] []
 
   abbrev n : ℕ
-  n = 3 * (p + q) + 6 * N + 11
+  n = 3 * (unsent x.end + unsent y.end) + 6 * N + 11
 
   finds_x : finds x.end ≤ 2 * N + 5
   finds_x =
@@ -278,15 +299,15 @@ module _ (N : ℕ) (some : 1 ≤ N) (x y : Station) (p q : ℕ) (mine : unsent x
           → 2 * unsent x.end + 2 * unsent y.end + attempt y.end + gone N y.end + polls N x.end
           + again N x.end ≤ n
       by_both (inl none) (inl nothing) =
-          omega (arith, none, nothing, mine, its, polls_x, attempt_y, some)
+          omega (arith, none, nothing, polls_x, attempt_y, some)
       by_both (inl none) (inr sends) =
-          let a = sends.0 in omega (arith, none, a, mine, its, polls_x, attempt_y, some)
+          let a = sends.0 in omega (arith, none, a, polls_x, attempt_y, some)
       by_both (inr last) (inl nothing) =
-          let a = last.0 in let g = last.1 in omega (arith, a, g, nothing, mine, its, polls_x, some)
+          let a = last.0 in let g = last.1 in omega (arith, a, g, nothing, polls_x, some)
       by_both (inr last) (inr sends) =
           let a = last.0 in
           let g = last.1 in
-          let b = sends.0 in let u = sends.1 in omega (arith, a, g, b, u, mine, its, polls_x, some)
+          let b = sends.0 in let u = sends.1 in omega (arith, a, g, b, u, polls_x, some)
 
   alone_begins : is_7_or_8 x.end.state ≡ true → is_7_or_8 y.end.state ≡ false → Half N n w
   alone_begins opened c = by_state y.end.state refl c
@@ -298,7 +319,7 @@ module _ (N : ℕ) (some : 1 ≤ N) (x y : Station) (p q : ℕ) (mine : unsent x
             network = is;
             to_user = refl;
             ignored = tt;
-            most = omega (arith, mine, its, finds_x, some);
+            most = omega (arith, finds_x, some);
           })
       by_state AwaitingEstablishment is c =
           alone_5 (record {
@@ -314,88 +335,50 @@ module _ (N : ℕ) (some : 1 ≤ N) (x y : Station) (p q : ℕ) (mine : unsent x
             network = is;
             to_user = refl;
             ignored = tt;
-            most = omega (arith, mine, its, finds_x, attempt_y, some);
+            most = omega (arith, finds_x, attempt_y, some);
           })
       by_state MultipleFrameEstablished is c = cc
       by_state TimerRecovery is c = cc
 
-  -- the greater one
-  record Most (a b : ℕ) : Type 0 where
-    value : ℕ
-    first_few : a ≤ value
-    second_few : b ≤ value
-    one : (value ≡ a) ⊎ (value ≡ b)
+  most_sends : Either (1 ≤ unsent x.end + unsent y.end) (again N x.end) (again N y.end) (2 * N + 3)
+  most_sends =
+      either_of (again N x.end) (again N y.end) (2 * N + 3)
+      (elim (again_or_none N (x.end.window.vs == x.end.window.va) (unsent x.end)) [
+        | inl none ↦ inl none
+        | inr sends ↦ inr (sends.0, let u = sends.1 in omega (arith, u))
+      ]) (elim (again_or_none N (y.end.window.vs == y.end.window.va) (unsent y.end)) [
+        | inl none ↦ inl none
+        | inr sends ↦ inr (sends.0, let u = sends.1 in omega (arith, u))
+      ])
 
-  greater : (a b : ℕ) → a ≤ b ⊎ b ≤ a → Most a b
-  greater a b (inl less) =
-      record { value = b; first_few = less; second_few = omega arith; one = inr refl }
-  greater a b (inr less) =
-      record { value = a; first_few = omega arith; second_few = less; one = inl refl }
-
-  ordered : (a b : ℕ) → a ≤ b ⊎ b ≤ a
-  ordered a b = grind arith
-
-  record Extra (u : ℕ) : Type 0 where
-    sends : ℕ
-    sends_x : again N x.end ≤ sends
-    sends_y : again N y.end ≤ sends
-    either_sends : (sends ≡ 0) ⊎ ((sends ≡ 2 * N + 3) × (1 ≤ u))
-    leaves : ℕ
-    leaves_x : gone N x.end ≤ leaves
-    leaves_y : gone N y.end ≤ leaves
-    either_leaves : (leaves ≡ 0) ⊎ ((leaves ≡ 2 * N + 5) × (attempt x.end + attempt y.end ≤ 6))
-
-  extra : Extra (unsent x.end + unsent y.end)
-  extra =
-      let s = greater (again N x.end) (again N y.end) (ordered (again N x.end) (again N y.end)) in
-      let l = greater (gone N x.end) (gone N y.end) (ordered (gone N x.end) (gone N y.end)) in
-      record {
-        sends = s.value;
-        sends_x = s.first_few;
-        sends_y = s.second_few;
-        either_sends = by_sends s.value s.one;
-        leaves = l.value;
-        leaves_x = l.first_few;
-        leaves_y = l.second_few;
-        either_leaves = by_leaves l.value l.one;
-      }
-    where
-      by_sends : (v : ℕ) → (v ≡ again N x.end) ⊎ (v ≡ again N y.end)
-          → (v ≡ 0) ⊎ ((v ≡ 2 * N + 3) × (1 ≤ unsent x.end + unsent y.end))
-      by_sends v (inl same) =
-          elim (again_or_none N (x.end.window.vs == x.end.window.va) (unsent x.end)) [
-            | inl none ↦ inl (same ∙ none)
-            | inr sends ↦ inr (same ∙ sends.0, let u = sends.1 in omega (arith, u))
-          ]
-      by_sends v (inr same) =
-          elim (again_or_none N (y.end.window.vs == y.end.window.va) (unsent y.end)) [
-            | inl none ↦ inl (same ∙ none)
-            | inr sends ↦ inr (same ∙ sends.0, let u = sends.1 in omega (arith, u))
-          ]
-
-      by_leaves : (v : ℕ) → (v ≡ gone N x.end) ⊎ (v ≡ gone N y.end)
-          → (v ≡ 0) ⊎ ((v ≡ 2 * N + 5) × (attempt x.end + attempt y.end ≤ 6))
-      by_leaves v (inl same) = elim (last_few N x.end.state (tries x.end) x.end.release_pending) [
-        | inl none ↦ inl (same ∙ none)
-        | inr last ↦ inr (same ∙ last.1, let a = last.0 in omega (arith, a, attempt_y))
-      ]
-      by_leaves v (inr same) = elim (last_few N y.end.state (tries y.end) y.end.release_pending) [
-        | inl none ↦ inl (same ∙ none)
-        | inr last ↦ inr (same ∙ last.1, let a = last.0 in omega (arith, a, attempt_x))
-      ]
+  most_leaves : Either (attempt x.end + attempt y.end ≤ 6) (gone N x.end) (gone N y.end) (2 * N + 5)
+  most_leaves =
+      either_of (gone N x.end) (gone N y.end) (2 * N + 5)
+      (elim (last_few N x.end.state (tries x.end) x.end.release_pending) [
+        | inl none ↦ inl none
+        | inr last ↦ inr (last.1, let a = last.0 in omega (arith, a, attempt_y))
+      ]) (elim (last_few N y.end.state (tries y.end) y.end.release_pending) [
+        | inl none ↦ inl none
+        | inr last ↦ inr (last.1, let a = last.0 in omega (arith, a, attempt_x))
+      ])
 
   closed_begins : is_7_or_8 x.end.state ≡ false → is_7_or_8 y.end.state ≡ false → Half N n w
   closed_begins c d =
-      let e = extra in
       closed (record {
         user = c;
         network = d;
         to_user = refl;
         to_network = refl;
-        sends = e.sends;
-        leaves = e.leaves;
-        both = λ in_5 its_in_5. (e.sends_x, e.sends_y, e.leaves_x, e.leaves_y);
-        most = by_both e.sends e.leaves e.either_sends e.either_leaves;
+        sends = most_sends.value;
+        leaves = most_leaves.value;
+        both =
+            λ in_5 its_in_5. (
+              most_sends.first,
+              most_sends.second,
+              most_leaves.first,
+              most_leaves.second,
+            );
+        most = by_both most_sends.value most_leaves.value most_sends.one most_leaves.one;
       })
     where
       by_both : (sends leaves : ℕ)
@@ -403,36 +386,35 @@ module _ (N : ℕ) (some : 1 ≤ N) (x y : Station) (p q : ℕ) (mine : unsent x
           → (leaves ≡ 0) ⊎ ((leaves ≡ 2 * N + 5) × (attempt x.end + attempt y.end ≤ 6))
           → attempt x.end + attempt y.end + 2 * unsent x.end + 2 * unsent y.end + sends + leaves ≤ n
       by_both sends leaves (inl none) (inl nothing) =
-          omega (arith, none, nothing, mine, its, attempt_x, attempt_y, some)
+          omega (arith, none, nothing, attempt_x, attempt_y, some)
       by_both sends leaves (inl none) (inr last) =
-          let l = last.0 in let a = last.1 in omega (arith, none, l, a, mine, its, some)
+          let l = last.0 in let a = last.1 in omega (arith, none, l, a, some)
       by_both sends leaves (inr again_) (inl nothing) =
-          let s = again_.0 in omega (arith, s, nothing, mine, its, attempt_x, attempt_y, some)
+          let s = again_.0 in omega (arith, s, nothing, attempt_x, attempt_y, some)
       by_both sends leaves (inr again_) (inr last) =
           let s = again_.0 in
           let u = again_.1 in
-          let l = last.0 in let a = last.1 in omega (arith, s, u, l, a, mine, its, some)
+          let l = last.0 in let a = last.1 in omega (arith, s, u, l, a, some)
 
--- both ends are open, or one is closed; p and q are at least as many messages as are unsent
-pub half_begins : {C : Type 0} (N : ℕ) → 1 ≤ N → (x y : Station) (p q : ℕ) → unsent x.end ≤ p
-    → unsent y.end ≤ q → x.end.parameters.n200 ≤ N → y.end.parameters.n200 ≤ N
+-- both ends are open, or one is closed
+pub half_begins : {C : Type 0} (N : ℕ) → 1 ≤ N → (x y : Station) → x.end.parameters.n200 ≤ N
+    → y.end.parameters.n200 ≤ N
     → (is_7_or_8 x.end.state ≡ true → is_7_or_8 y.end.state ≡ true → C)
-    → (Coming N (3 * (p + q) + 6 * N + 11) (at x y [] []) → C) → C
-half_begins {C = C} N some x y p q mine its few_x few_y both half =
+    → (Coming N (3 * (unsent x.end + unsent y.end) + 6 * N + 11) (at x y [] []) → C) → C
+half_begins {C = C} N some x y few_x few_y both half =
     by_open (is_7_or_8 x.end.state) (is_7_or_8 y.end.state) refl refl
   where
-    turned_bound : 3 * (q + p) + 6 * N + 11 ≡ 3 * (p + q) + 6 * N + 11
+    turned_bound : 3 * (unsent y.end + unsent x.end) + 6 * N + 11
+        ≡ 3 * (unsent x.end + unsent y.end) + 6 * N + 11
     turned_bound = omega arith
 
     by_open : (a b : Bool) → is_7_or_8 x.end.state ≡ a → is_7_or_8 y.end.state ≡ b → C
     by_open true true o p = both o p
-    by_open true false o c =
-        half (inr (inl (alone_begins N some x y p q mine its few_x few_y o c)))
+    by_open true false o c = half (inr (inl (alone_begins N some x y few_x few_y o c)))
     by_open false true c o =
         half (inr (inr (subst (λ m. Half N m (swapped (at x y [] []))) turned_bound
-        (alone_begins N some y x q p its mine few_y few_x o c))))
-    by_open false false c d =
-        half (inr (inl (closed_begins N some x y p q mine its few_x few_y c d)))
+        (alone_begins N some y x few_y few_x o c))))
+    by_open false false c d = half (inr (inl (closed_begins N some x y few_x few_y c d)))
 
 -- own moves are at most the weight of the start, and lead to ends that agree
 pub record Returns (n : ℕ) (w : World) : Type 0 where

@@ -164,7 +164,7 @@ module _ (N : ℕ) (some : 1 ≤ N) where
 
     emptied : IsEmptied n w
     emptied =
-        half_begins N some x y (unsent x.end) (unsent y.end) (omega arith) (omega arith)
+        half_begins N some x y
         b.facts.few_user b.facts.few_network
         (λ o p. record {
           m = n + 8;
