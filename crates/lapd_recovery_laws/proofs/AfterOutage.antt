@@ -118,9 +118,7 @@ half_rests N n w (alone_4 s) have still rests = by_state w.user.end.state refl s
         }))
     by_state TimerRecovery is o =
         let on = (timers_in TimerRecovery w.user.end have.user is).0 in let off = still.user in cc
-    by_state TeiAssigned is o = cc
-    by_state AwaitingEstablishment is o = cc
-    by_state AwaitingRelease is o = cc
+    by_state state is o = cc
 half_rests N n w (alone_5 s) have still rests =
     let on = (timers_in AwaitingEstablishment w.network.end have.network s.network).0 in
     let off = still.network in cc

@@ -241,9 +241,7 @@ module _ (N U p n : ℕ) (x y : Station) (frame : Flight) (rest to_network : Lis
             let was = all_before (s.in_7 is) in
             let few = vain_few N e.state e.rc (tally final_of ks) in
             omega (arith, was, few)
-        by_state TeiAssigned is o = cc
-        by_state AwaitingEstablishment is o = cc
-        by_state AwaitingRelease is o = cc
+        by_state state is o = cc
 
     -- x stays as it is, and sends nothing
     unchanged : e ≡ x.end → h.new ≡ [] → Rest N n e y.end rest line

@@ -4,7 +4,7 @@ use Rattle.std.proofs.Common.{◌≡◌, ◌⊎◌, inl, inr, ℕ, ◌+◌, ◌-
 use Rattle.lapd_frame.specs.declared.Side.TheVariants as side
 use Rattle.lapd_mod128.specs.Counting.{Whole}
 use Rattle.lapd_link_definition.specs.declared.state.State.{State}
-use Rattle.lapd_link_definition.specs.declared.state.State.TheVariants.{TeiAssigned, AwaitingEstablishment, AwaitingRelease, MultipleFrameEstablished, TimerRecovery}
+use Rattle.lapd_link_definition.specs.declared.state.State.TheVariants.{MultipleFrameEstablished, TimerRecovery}
 use Rattle.lapd_link_definition.specs.EndOfStep.{is_7_or_8, end_step}
 use Rattle.lapd_link_definition.specs.End.{End, StepState, begin, unsent}
 use Rattle.lapd_link_definition.specs.Input.{Heard}
@@ -252,9 +252,7 @@ module _ (x y : Station) (frame : Flight) (rest outgoing : List Flight)
           let polls = stays.polls in
           let none = before.2 in
           omega (arith, now, was, polls, none)
-      by_state TeiAssigned is o = cc
-      by_state AwaitingEstablishment is o = cc
-      by_state AwaitingRelease is o = cc
+      by_state state is o = cc
 
   -- ---- What x still sends.
 

@@ -6,7 +6,7 @@ use Rattle.lapd_frame.specs.declared.Side.TheVariants as side
 use Rattle.lapd_mod128.specs.Counting.{Whole}
 use Rattle.lapd_supervision.specs.StateVariables.{StateVariables, without_ack_pending}
 use Rattle.lapd_link_definition.specs.declared.state.State.{State}
-use Rattle.lapd_link_definition.specs.declared.state.State.TheVariants.{TeiAssigned, AwaitingEstablishment, AwaitingRelease, MultipleFrameEstablished, TimerRecovery}
+use Rattle.lapd_link_definition.specs.declared.state.State.TheVariants.{MultipleFrameEstablished, TimerRecovery}
 use Rattle.lapd_link_definition.specs.EndOfStep.{is_7_or_8}
 use Rattle.lapd_link_definition.specs.End.{End}
 use Rattle.lapd_link_definition.specs.RunningTimers.{HasTimersOfState}
@@ -29,7 +29,7 @@ use Rattle.lapd_recovery_laws.proofs.OneMoreFrame.{seeing}
 use Rattle.lapd_recovery_laws.proofs.OwnBySide.{t200_runs, t203_runs, ok_of_side}
 use Rattle.lapd_recovery_laws.proofs.Proceeding.{none_rejected}
 use Rattle.lapd_recovery_laws.proofs.StaysOpen.{Lasts, lasts_swapped, SendsPoll, awaits_none, t200_polls, t203_polls}
-use Rattle.lapd_recovery_laws.proofs.Transitions.{timers_in}
+use Rattle.lapd_recovery_laws.proofs.Transitions.{timers_in, in_7_if_t203}
 
 no_rejection : (k : Kind) → poll_of k ≡ 1 → rejections (k ∷ []) ≡ []
 no_rejection (Rejection nr) polls = cc
@@ -258,9 +258,7 @@ module _ (w : World) (ok : is_ok (acts Whole side.User Expire200 (view_of side.U
       (asked_by (kinds w.to_network) (kinds w.to_user))) is in
       let none = quiet_200 in
       omega (arith, same, none)
-  waited TeiAssigned is o = cc
-  waited AwaitingEstablishment is o = cc
-  waited AwaitingRelease is o = cc
+  waited state is o = cc
 
   pub waits_200 : is_7_or_8 w.user.end.state ≡ true
       → waits w.user.end (kinds w.to_network) (kinds w.to_user) ≡ 1
@@ -302,35 +300,25 @@ off_if false off = refl
 user_203 : (b n : ℕ) (w : World) → Lasts b w → HasTimersOfState w.user.end → IsFree w.user.end
     → Expires n w → is_ok (acts Whole side.User Expire203 (view_of side.User w)) ≡ true
     → FallsBy 0 n (after side.User Expire203 w)
-user_203 b n w l has free e ok = by_state w.user.end.state refl l.user.open_state
-  where
-    on : w.user.end.t203 ≡ true
-    on = t203_runs (view_of side.User w) ok
-
-    by_state : (state : State) → w.user.end.state ≡ state → is_7_or_8 state ≡ true
-        → FallsBy 0 n (after side.User Expire203 w)
-    by_state MultipleFrameEstablished is o =
-        let x = w.user in
-        let f =
-        polled_expiries b x.end.parameters.n200 x w.network w.to_user w.to_network Expire203
-        (t203_polls b x w.to_user w.to_network l.user has ok) (free l.user.open_state)
-        (λ in_8. let impossible : MultipleFrameEstablished ≡ TimerRecovery = sym is ∙ in_8 in cc)
-        n e in
-        let off = off_if w.user.end.t200 (sym (timers_in MultipleFrameEstablished x.end has is).0 ∙ on) in
-        let none : waits x.end (kinds w.to_network) (kinds w.to_user) ≡ 0 =
-        ap (λ st. waits_in st x.end.t200 (asked_by (kinds w.to_network) (kinds w.to_user))) is
-        ∙ ap one_if off in
-        subst (λ u. FallsBy 0 n u) (sym (moved_user Expire203 w)) (record {
-          some = omega arith;
-          expires = subst (λ j. Expires (n - j)
-              (with_view side.User (left_by (view_of side.User w)
-              (acts Whole side.User Expire203 (view_of side.User w))) w)) none f.expiries;
-        })
-    by_state TimerRecovery is o =
-        let off = (timers_in TimerRecovery w.user.end has is).1 in let runs = on in cc
-    by_state TeiAssigned is o = cc
-    by_state AwaitingEstablishment is o = cc
-    by_state AwaitingRelease is o = cc
+user_203 b n w l has free e ok =
+    let x = w.user in
+    let on = t203_runs (view_of side.User w) ok in
+    let is = in_7_if_t203 x.end has on in
+    let f =
+    polled_expiries b x.end.parameters.n200 x w.network w.to_user w.to_network Expire203
+    (t203_polls b x w.to_user w.to_network l.user has ok) (free l.user.open_state)
+    (λ in_8. let impossible : MultipleFrameEstablished ≡ TimerRecovery = sym is ∙ in_8 in cc)
+    n e in
+    let off = off_if x.end.t200 (sym (timers_in MultipleFrameEstablished x.end has is).0 ∙ on) in
+    let none : waits x.end (kinds w.to_network) (kinds w.to_user) ≡ 0 =
+    ap (λ st. waits_in st x.end.t200 (asked_by (kinds w.to_network) (kinds w.to_user))) is
+    ∙ ap one_if off in
+    subst (λ u. FallsBy 0 n u) (sym (moved_user Expire203 w)) (record {
+      some = omega arith;
+      expires = subst (λ j. Expires (n - j)
+          (with_view side.User (left_by (view_of side.User w)
+          (acts Whole side.User Expire203 (view_of side.User w))) w)) none f.expiries;
+    })
 
 pub t203_still : (b n : ℕ) (s : Side) (w : World) → Lasts b w → HaveTimersOfStates w
     → IsFree w.user.end → IsFree w.network.end → Expires n w

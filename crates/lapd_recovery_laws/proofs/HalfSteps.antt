@@ -317,9 +317,7 @@ disc_by_state : (e : End) (state : State) → is_7_or_8 state ≡ true
 unfolding each_row
 disc_by_state e MultipleFrameEstablished opened = disc_closes e
 disc_by_state e TimerRecovery opened = disc_closes e
-disc_by_state e TeiAssigned opened = cc
-disc_by_state e AwaitingEstablishment opened = cc
-disc_by_state e AwaitingRelease opened = cc
+disc_by_state e state opened = cc
 
 pub disc_in_7_8 : (e : End) → is_7_or_8 e.state ≡ true
     → Yields e (end_step Whole (row Whole e.state (Heard (Disc true) Command) (begin e)))

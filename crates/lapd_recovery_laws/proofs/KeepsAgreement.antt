@@ -6,7 +6,7 @@ use Rattle.lapd_frame.specs.declared.Side.{Side}
 use Rattle.lapd_frame.specs.declared.Side.TheVariants as side
 use Rattle.lapd_mod128.specs.Counting.{Whole}
 use Rattle.lapd_link_definition.specs.declared.state.State.{State}
-use Rattle.lapd_link_definition.specs.declared.state.State.TheVariants.{TeiAssigned, AwaitingEstablishment, AwaitingRelease, MultipleFrameEstablished, TimerRecovery}
+use Rattle.lapd_link_definition.specs.declared.state.State.TheVariants.{TeiAssigned, MultipleFrameEstablished, TimerRecovery}
 use Rattle.lapd_link_definition.specs.EndOfStep.{is_7_or_8}
 use Rattle.lapd_link_definition.specs.End.{End, begin, unsent, waiting}
 use Rattle.lapd_link_definition.specs.Table.{step}
@@ -53,7 +53,7 @@ use Rattle.lapd_recovery_laws.proofs.LostMoves.{moved_user}
 use Rattle.lapd_recovery_laws.proofs.OutageWorlds.{Facts, facts_swapped, no_t203_if_closed}
 use Rattle.lapd_recovery_laws.proofs.RunsEmpty as runs
 use Rattle.lapd_recovery_laws.proofs.TimersBeside.{IsBeside, t200_beside, t203_beside}
-use Rattle.lapd_recovery_laws.proofs.Transitions.{timers_in}
+use Rattle.lapd_recovery_laws.proofs.Transitions.{timers_in, in_7_if_t203}
 
 -- ---- Ends in step.
 
@@ -73,9 +73,7 @@ calm_swapped w c = record { user = c.network; network = c.user }
 answered_open : (state : State) (n : ℕ) → is_answered state n ≡ true → is_7_or_8 state ≡ true
 answered_open MultipleFrameEstablished n is = refl
 answered_open TimerRecovery n is = refl
-answered_open TeiAssigned n is = cc
-answered_open AwaitingEstablishment n is = cc
-answered_open AwaitingRelease n is = cc
+answered_open state n is = cc
 
 some_polls : (n : ℕ) → nat_lt 0 n ≡ true → 1 ≤ n
 some_polls n less = grind (arith, nat_tests, less)
@@ -84,9 +82,7 @@ answered_polled : (state : State) (n : ℕ) → is_answered state n ≡ true →
     → 1 ≤ n
 answered_polled MultipleFrameEstablished n is in_8 = cc
 answered_polled TimerRecovery n is in_8 = some_polls n is
-answered_polled TeiAssigned n is in_8 = cc
-answered_polled AwaitingEstablishment n is in_8 = cc
-answered_polled AwaitingRelease n is in_8 = cc
+answered_polled state n is in_8 = cc
 
 all_three : (a b c : Bool) → (a && (b && c)) ≡ true → (a ≡ true) × (b ≡ true) × (c ≡ true)
 all_three true true true all = (refl, refl, refl)
@@ -334,29 +330,17 @@ user_200 w c ok = by_state w.user.end.state refl c.user.open_state
         let no_poll = none.0 in
         let no_final = none.1 in
         absurd (omega (arith, some, no_poll, no_final))
-    by_state TeiAssigned is o = cc
-    by_state AwaitingEstablishment is o = cc
-    by_state AwaitingRelease is o = cc
+    by_state state is o = cc
 
 user_203 : (w : World) → HasTimersOfState w.user.end → Calm w
     → is_ok (acts Whole side.User Expire203 (view_of side.User w)) ≡ true
     → Calm (after side.User Expire203 w)
-user_203 w has c ok = by_state w.user.end.state refl c.user.open_state
-  where
-    on : w.user.end.t203 ≡ true
-    on = t203_runs (view_of side.User w) ok
-
-    by_state : (state : State) → w.user.end.state ≡ state → is_7_or_8 state ≡ true
-        → Calm (after side.User Expire203 w)
-    by_state MultipleFrameEstablished is o =
-        polled Expire203 0 w
-        (left_by (seeing w.user [] []) (acts Whole side.User Expire203 (seeing w.user [] [])))
-        (polls_by_t203 w.user is on) (t203_beside w.user w.to_user w.to_network ok) c
-    by_state TimerRecovery is o =
-        let off = (timers_in TimerRecovery w.user.end has is).1 in let runs = on in cc
-    by_state TeiAssigned is o = cc
-    by_state AwaitingEstablishment is o = cc
-    by_state AwaitingRelease is o = cc
+user_203 w has c ok =
+    let on = t203_runs (view_of side.User w) ok in
+    polled Expire203 0 w
+    (left_by (seeing w.user [] []) (acts Whole side.User Expire203 (seeing w.user [] [])))
+    (polls_by_t203 w.user (in_7_if_t203 w.user.end has on) on)
+    (t203_beside w.user w.to_user w.to_network ok) c
 
 expire_200 : (s : Side) (w : World) → Calm w
     → is_ok (happens Whole (record { side = s; event = Expire200 }) w) ≡ true

@@ -3,7 +3,7 @@ use Rattle.std.proofs.Common.{◌≡◌, ℕ, ◌+◌, ◌-◌, ◌≤◌, true,
 use Rattle.lapd_frame.specs.declared.Side.TheVariants as side
 use Rattle.lapd_mod128.specs.Counting.{Whole}
 use Rattle.lapd_link_definition.specs.declared.state.State.{State}
-use Rattle.lapd_link_definition.specs.declared.state.State.TheVariants.{TeiAssigned, AwaitingEstablishment, AwaitingRelease, MultipleFrameEstablished, TimerRecovery}
+use Rattle.lapd_link_definition.specs.declared.state.State.TheVariants.{MultipleFrameEstablished, TimerRecovery}
 use Rattle.lapd_link_definition.specs.EndOfStep.{is_7_or_8}
 use Rattle.lapd_link_definition.specs.Table.{step}
 use Rattle.lapd_pair_laws.specs.Line.{Flight}
@@ -85,9 +85,7 @@ still_in_8 n w d = by_state w.user.end.state refl (mine_open d.sees.flow)
         let m : Mid x y out back = enter x y out back (rw is refl) i.both in
         let none : tally final_of back ≡ 0 = (none_asked_in_7 x y out back is m).finals in
         absurd (omega (arith, none, more))
-    by_state TeiAssigned is opened = cc
-    by_state AwaitingEstablishment is opened = cc
-    by_state AwaitingRelease is opened = cc
+    by_state state is opened = cc
 
 -- its weight is at least this
 pub weight_in_8 : (x : Source) (y : Sink) (out back : List Kind) (n : ℕ) → x.state ≡ TimerRecovery

@@ -2,7 +2,7 @@
 use Rattle.std.proofs.Common.{◌≡◌, ◌⊎◌, inl, inr, ℕ, ◌+◌, ◌-◌, ◌*◌, ◌≤◌, Bool, true, false, List, [], ◌∷◌, ◌++◌, length, append_assoc, refl, sym, ap, subst, ◌∙◌, arith}
 use Rattle.lapd_mod128.specs.Counting.{Whole}
 use Rattle.lapd_link_definition.specs.declared.state.State.{State}
-use Rattle.lapd_link_definition.specs.declared.state.State.TheVariants.{TeiAssigned, AwaitingEstablishment, AwaitingRelease, MultipleFrameEstablished, TimerRecovery}
+use Rattle.lapd_link_definition.specs.declared.state.State.TheVariants.{MultipleFrameEstablished, TimerRecovery}
 use Rattle.lapd_link_definition.specs.EndOfStep.{is_7_or_8, end_step}
 use Rattle.lapd_link_definition.specs.End.{End, StepState, unsent, waiting}
 use Rattle.lapd_pair_laws.specs.Line.{Flight}
@@ -58,9 +58,7 @@ hears_in Q e ks opened q = by_case e.state opened q
         })
     by_case MultipleFrameEstablished o q = q
     by_case TimerRecovery o q = q
-    by_case TeiAssigned o q = cc
-    by_case AwaitingEstablishment o q = cc
-    by_case AwaitingRelease o q = cc
+    by_case state o q = cc
 
 pub heard_in : (Q : Reception → Type 0) (e : End) (ks : List Kind) → is_7_or_8 e.state ≡ true
     → Q (record {
@@ -83,9 +81,7 @@ heard_in Q e ks opened q = by_case e.state opened
         }) ks)
     by_case MultipleFrameEstablished o = q
     by_case TimerRecovery o = q
-    by_case TeiAssigned o = cc
-    by_case AwaitingEstablishment o = cc
-    by_case AwaitingRelease o = cc
+    by_case state o = cc
 
 pub impossible : {A : Type 0} (b : Bool) → b ≡ true → b ≡ false → A
 impossible true on off = cc
@@ -412,9 +408,7 @@ module _ (c : Context) (y : End) (k : Kind) (ks : List Kind) (s t : StepState)
       by_window (inr full) = omega (arith, full, sum, lack, missing_, sent, le)
   enough_in TimerRecovery u m d v j w n g opened window sum lack missing_ sent le =
       omega (arith, sum, lack, missing_, sent, le)
-  enough_in TeiAssigned u m d v j w n g opened window sum lack missing_ sent le = cc
-  enough_in AwaitingEstablishment u m d v j w n g opened window sum lack missing_ sent le = cc
-  enough_in AwaitingRelease u m d v j w n g opened window sum lack missing_ sent le = cc
+  enough_in state u m d v j w n g opened window sum lack missing_ sent le = cc
 
   pays_back : (n : ℕ) → pending s.end ≡ 0 → load s.end y (kinds outgoing) ≤ n
       → Pays u.end y (kinds outgoing ++ kinds closing.frames) ks

@@ -634,9 +634,7 @@ module _ (station peer : Station) (frame : Flight) (rest outgoing : List Flight)
     by_open_state MultipleFrameEstablished control role is o no_unit m =
         in_state_7 control role is no_unit m
     by_open_state TimerRecovery control role is o no_unit m = in_state_8 control role is no_unit m
-    by_open_state TeiAssigned control role is o no_unit m = cc
-    by_open_state AwaitingEstablishment control role is o no_unit m = cc
-    by_open_state AwaitingRelease control role is o no_unit m = cc
+    by_open_state state control role is o no_unit m = cc
 
     pub open_delivered : Done (kind frame) (row Whole e.state (Heard frame.control frame.role) s)
     unfolding row

@@ -8,7 +8,7 @@ use Rattle.lapd_frame.specs.declared.Control.TheVariants.{I, Rr, Rej}
 use Rattle.lapd_mod128.specs.Counting.{Whole, lies_within}
 use Rattle.lapd_supervision.specs.StateVariables.{without_ack_pending, with_peer_busy, is_valid_nr, acknowledges_all, after_i_frame}
 use Rattle.lapd_link_definition.specs.declared.state.State.{State}
-use Rattle.lapd_link_definition.specs.declared.state.State.TheVariants.{TeiAssigned, AwaitingEstablishment, AwaitingRelease, MultipleFrameEstablished, TimerRecovery}
+use Rattle.lapd_link_definition.specs.declared.state.State.TheVariants.{AwaitingEstablishment, MultipleFrameEstablished, TimerRecovery}
 use Rattle.lapd_link_definition.specs.declared.out.Letter.TheVariants as letter
 use Rattle.lapd_link_definition.specs.declared.out.Out.TheVariants.{Report}
 use Rattle.lapd_link_definition.specs.EndOfStep.{is_7_or_8}
@@ -161,6 +161,4 @@ only_runs e control role settled opened ready =
     in_state MultipleFrameEstablished is o =
         only_in_7 control role (begin e) is (λ off. timed_7 e settled is off) ready
     in_state TimerRecovery is o = only_in_8 control role (begin e) is ready
-    in_state TeiAssigned is o = cc
-    in_state AwaitingEstablishment is o = cc
-    in_state AwaitingRelease is o = cc
+    in_state state is o = cc

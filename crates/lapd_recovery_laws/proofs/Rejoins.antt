@@ -162,9 +162,7 @@ module _ (N : ℕ) (x y : Station) (frame : Flight) (rest to_network : List Flig
           by_before : (x.end.state ≡ MultipleFrameEstablished) ⊎ (final_of k ≡ 1) → ⊥
           by_before (inl before) = not_7 before
           by_before (inr final) = let none = was.finals in omega (arith, none, final)
-      in_8 s TeiAssigned is o = cc
-      in_8 s AwaitingEstablishment is o = cc
-      in_8 s AwaitingRelease is o = cc
+      in_8 s state is o = cc
 
       by_calm : HasStayed x.end e k ⊎ ((e ≡ x.end) × (h.new ≡ [])) → IsRejoining e ks
       by_calm (inl s) =

@@ -234,9 +234,7 @@ pub open_requests_none : (state : State) (waits : Bool) (n : ℕ) → is_7_or_8 
     → request_in state waits n ≡ 0
 open_requests_none MultipleFrameEstablished waits n o = refl
 open_requests_none TimerRecovery waits n o = refl
-open_requests_none TeiAssigned waits n o = cc
-open_requests_none AwaitingEstablishment waits n o = cc
-open_requests_none AwaitingRelease waits n o = cc
+open_requests_none state waits n o = cc
 
 pub request_few : (state : State) (waits : Bool) (n : ℕ) → request_in state waits n ≤ 6
 request_few AwaitingEstablishment true n = omega arith
@@ -394,9 +392,7 @@ module _ (x y : Station) (frame : Flight) (rest outgoing : List Flight)
               ran (ap (λ (w : Sending). w.state) p.sending_same ∙ is) runs level
           in_state TimerRecovery is o runs =
               let enough = r.idle opened (inl is) level in omega (arith, enough)
-          in_state TeiAssigned is o runs = cc
-          in_state AwaitingEstablishment is o runs = cc
-          in_state AwaitingRelease is o runs = cc
+          in_state state is o runs = cc
 
           by_start : (t.end.t200 ≡ true) ⊎ (1 ≤ closing.sent) → Enough (waiting x.end)
           by_start (inl runs) = in_state x.end.state refl opened runs
@@ -472,9 +468,7 @@ module _ (x y : Station) (frame : Flight) (rest outgoing : List Flight)
             → t.end.t200 ≡ true → Enough (waiting u.end)
         in_state MultipleFrameEstablished is o on = let off = b.stopped is in cc
         in_state TimerRecovery is o on = by_ready (is_ready frame.control) refl is on
-        in_state TeiAssigned is o on = cc
-        in_state AwaitingEstablishment is o on = cc
-        in_state AwaitingRelease is o on = cc
+        in_state state is o on = cc
 
         by_start : (t.end.t200 ≡ true) ⊎ (1 ≤ closing.sent) → Enough (waiting u.end)
         by_start (inl runs) = in_state x.end.state refl opened runs
@@ -556,9 +550,7 @@ module _ (x y : Station) (frame : Flight) (rest outgoing : List Flight)
           → (x.end.state ≡ MultipleFrameEstablished) ⊎ (final_of k ≡ 1)
       in_state b MultipleFrameEstablished is o = inl is
       in_state b TimerRecovery is o = inr (b.final is)
-      in_state b TeiAssigned is o = cc
-      in_state b AwaitingEstablishment is o = cc
-      in_state b AwaitingRelease is o = cc
+      in_state b state is o = cc
 
       by_turn : u.end.state ≡ MultipleFrameEstablished → Turns c k ks s t
           → (x.end.state ≡ MultipleFrameEstablished) ⊎ (final_of k ≡ 1)

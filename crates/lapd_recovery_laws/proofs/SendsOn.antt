@@ -10,7 +10,7 @@ use Rattle.lapd_supervision.specs.StateVariables.{may_send, after_sending, witho
 use Rattle.lapd_link_definition.specs.declared.out.Letter.TheVariants as letter
 use Rattle.lapd_link_definition.specs.declared.out.Out.TheVariants.{Send, Start, Stop, Report, Dropped, Confirmed, Established}
 use Rattle.lapd_link_definition.specs.declared.state.State.{State}
-use Rattle.lapd_link_definition.specs.declared.state.State.TheVariants.{TeiAssigned, AwaitingEstablishment, AwaitingRelease, MultipleFrameEstablished, TimerRecovery}
+use Rattle.lapd_link_definition.specs.declared.state.State.TheVariants.{AwaitingEstablishment, MultipleFrameEstablished, TimerRecovery}
 use Rattle.lapd_link_definition.specs.AwaitingEstablishment.{confirm_or_indicate, ua_final, awaiting_establishment}
 use Rattle.lapd_link_definition.specs.EndOfStep.{is_7_or_8, is_established, may_send_next, send_next, send_all, acknowledge_pending, end_step}
 use Rattle.lapd_link_definition.specs.End.{End, StepState, ◌▷◌, begin, unsent, waiting}
@@ -332,9 +332,7 @@ module _ (x : Station) (frame : Flight) (rest outgoing : List Flight) where
   unfolding row by_state multiple_frame_established timer_recovery
   by_state_7_8 MultipleFrameEstablished opened = by_row
   by_state_7_8 TimerRecovery opened = by_row
-  by_state_7_8 TeiAssigned opened = cc
-  by_state_7_8 AwaitingEstablishment opened = cc
-  by_state_7_8 AwaitingRelease opened = cc
+  by_state_7_8 state opened = cc
 
   pub sabme_opens : frame.control ≡ Sabme true → frame.role ≡ Command → is_7_or_8 e.state ≡ true
       → Opens (unsent e) (outgoing ++ ua ∷ []) rest

@@ -323,9 +323,7 @@ module _ (N : ℕ) where
             → PollsOn x v ⊎ AsksAnew x v
         by_state MultipleFrameEstablished is o = inl (from_7 is)
         by_state TimerRecovery is o = from_8 is
-        by_state TeiAssigned is o = cc
-        by_state AwaitingEstablishment is o = cc
-        by_state AwaitingRelease is o = cc
+        by_state state is o = cc
 
 -- ---- Both ends are up: the line drains.
 

@@ -6,7 +6,7 @@ use Rattle.lapd_frame.specs.declared.Side.{Side}
 use Rattle.lapd_frame.specs.declared.Side.TheVariants as side
 use Rattle.lapd_mod128.specs.Counting.{Whole}
 use Rattle.lapd_link_definition.specs.declared.state.State.{State}
-use Rattle.lapd_link_definition.specs.declared.state.State.TheVariants.{TeiAssigned, AwaitingEstablishment, AwaitingRelease, MultipleFrameEstablished, TimerRecovery}
+use Rattle.lapd_link_definition.specs.declared.state.State.TheVariants.{MultipleFrameEstablished, TimerRecovery}
 use Rattle.lapd_link_definition.specs.EndOfStep.{is_7_or_8}
 use Rattle.lapd_link_definition.specs.End.{End}
 use Rattle.lapd_link_definition.specs.Input.{Expiry}
@@ -43,7 +43,7 @@ use Rattle.lapd_recovery_laws.proofs.LostMoves.{moved_user}
 use Rattle.lapd_recovery_laws.proofs.OpenFrames.{Stays, open_delivered}
 use Rattle.lapd_recovery_laws.proofs.OutageWorlds.{Facts, second_of}
 use Rattle.lapd_recovery_laws.proofs.TimersBeside.{IsBeside, t200_beside, t203_beside}
-use Rattle.lapd_recovery_laws.proofs.Transitions.{timers_in}
+use Rattle.lapd_recovery_laws.proofs.Transitions.{timers_in, in_7_if_t203}
 
 -- b frames may still be lost. In state 8 a poll or its final is in transit, or RC is lower by one.
 pub record Tries (b : ℕ) (x : End) (out back : List Kind) : Type 0 where
@@ -252,31 +252,19 @@ module _ (b : ℕ) (x : Station) (to_user to_network : List Flight)
                 (omega (arith, enough, no_poll, no_final)));
             beside = t200_beside x to_user to_network ok;
           }
-      by_state TeiAssigned is o = cc
-      by_state AwaitingEstablishment is o = cc
-      by_state AwaitingRelease is o = cc
+      by_state state is o = cc
 
   pub t203_polls : HasTimersOfState x.end → is_ok (acts Whole side.User Expire203 seen) ≡ true
       → SendsPoll b x.end.parameters.n200 x to_user to_network Expire203
-  t203_polls has ok = by_state x.end.state refl l.open_state
-    where
-      on : x.end.t203 ≡ true
-      on = t203_runs seen ok
-
-      by_state : (state : State) → x.end.state ≡ state → is_7_or_8 state ≡ true
-          → SendsPoll b x.end.parameters.n200 x to_user to_network Expire203
-      by_state MultipleFrameEstablished is o = record {
+  t203_polls has ok =
+      let on = t203_runs seen ok in
+      record {
         rc = 0;
         enough = (let spare = l.spare in omega (arith, spare));
         alone = left_by (seeing x [] []) (acts Whole side.User Expire203 (seeing x [] []));
-        polls = polls_by_t203 x is on;
+        polls = polls_by_t203 x (in_7_if_t203 x.end has on) on;
         beside = t203_beside x to_user to_network ok;
       }
-      by_state TimerRecovery is o =
-          let off = (timers_in TimerRecovery x.end has is).1 in let runs = on in cc
-      by_state TeiAssigned is o = cc
-      by_state AwaitingEstablishment is o = cc
-      by_state AwaitingRelease is o = cc
 
 polled : (b : ℕ) (event : PairEvent) (x y : Station) (to_user to_network : List Flight)
     → Lasts b (at x y to_user to_network)
