@@ -33,10 +33,10 @@ ghost use Rattle.lapd_recovery_laws.specs.WantedLine.{AreWanting, IsWanted, Stay
 /// lost: a message and the three polls for it, so that the link is established anew and the message
 /// dropped; and a message and only two polls, so that it is received. Without T203, a network that
 /// restarts leaves the ends apart. With a busy end the moves are not few. The premises of the laws
-/// below hold: the world is free and wanted after the network's restart, where the poll and the SABME
-/// cross, and where the SABME of the user is lost. Without
-/// one of the premises of a wanted link both ends are in state 4 in the end: all SABMEs of the user
-/// are lost; its release is pending; its DISC is lost; or a DM is in transit.
+/// below hold: the world is free and wanted after the network's restart, where the poll and the
+/// SABME cross, and where the SABME of the user is lost. Without one of the premises of a wanted
+/// link both ends are in state 4 in the end: all SABMEs of the user are lost; its release is
+/// pending; its DISC is lost; or a DM is in transit.
 pub fn recovery_is_computed()
     ensures restart { (r : Reading) → outcome_of r (run r network_restarts (new_pair 1 Enquiry))
         ≡ both_in_7 11 0 0 }
