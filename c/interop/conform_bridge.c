@@ -88,6 +88,7 @@ int main(int count, char **words)
 	for (;;) {
 		struct pollfd open[] = { { line.socket, POLLIN, 0 }, { upper < 0 ? upper_port : upper, POLLIN, 0 } };
 
+		poll(open, 2, their_wait(LONGEST));
 		now = clock_now();
 		their_clock(now - then);
 		then = now;
@@ -95,11 +96,10 @@ int main(int count, char **words)
 			their_take(frame, (size_t)length);
 		if (length < 0)
 			return 0;
-		their_tick();
-		poll(open, 2, their_wait(LONGEST));
 		if ((open[1].revents & POLLIN) != 0 && upper < 0)
 			upper = accepted(upper_port);
 		else if (open[1].revents != 0 && !serve(upper))
 			upper = -1;
+		their_tick();
 	}
 }
