@@ -30,7 +30,8 @@ fn inconclusive_words(doubt: Doubt, reason: Option<Reason>) -> &'static str {
 }
 
 /// The text of the frame that the table does not allow, or that was received last if the purpose
-/// was not reached; a word if nothing was received.
+/// was not reached; a word if nothing was received, or if a frame was due before the next one of the
+/// tester.
 ///
 /// # Errors
 ///
@@ -71,7 +72,9 @@ fn frame_at(
     place: usize,
 ) -> Result<String, AllocError> {
     match happenings.get(place) {
-        Some(happening) => line(alloc, side, happening.octets.as_slice()),
-        None => String::from_str(alloc, NOTHING),
+        Some(happening) if happening.what == What::Received => {
+            line(alloc, side, happening.octets.as_slice())
+        }
+        _ => String::from_str(alloc, NOTHING),
     }
 }

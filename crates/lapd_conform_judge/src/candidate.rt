@@ -325,7 +325,7 @@ impl Candidate {
         if matches!(step, Move::T200) {
             self.last = self.facts.last();
         }
-        let until = self.since_of(step, now);
+        let until = self.since_of(dialogue, step, now);
         for place in 0..self.run.outs.len() {
             if let Some(out) = self.output(place) {
                 self.put(dialogue, out, until)?;
@@ -339,11 +339,15 @@ impl Candidate {
         self.run.outs.as_slice().get(place).copied()
     }
 
-    /// The latest moment of the last move.
-    fn since_of(&self, step: Move, now: u64) -> u64 {
+    /// The latest moment of the last move. A frame of the tester is taken soon after it was sent, also
+    /// if nothing shows that before the end of the dialogue.
+    fn since_of(&self, dialogue: &Dialogue<'_>, step: Move, now: u64) -> u64 {
         match step {
             Move::T200 | Move::T203 => self.since,
-            _ => now,
+            Move::Hear(place) | Move::HearRequest(place) => {
+                now.min(taken_by(dialogue, Some(place)))
+            }
+            Move::Ask(_) | Move::Skip(_) | Move::Establish => now,
         }
     }
 

@@ -55,8 +55,8 @@ pub(crate) struct Player<'s> {
     allowed: Vec<Line<'s>>,
     /// The moment of the last frame or request.
     mark: u64,
-    /// The tester polled, and has not received the response.
-    polled: bool,
+    /// The moment of the first poll whose response the tester has not received.
+    polled: Option<u64>,
 }
 
 /// The frames that are expected of the stack, and when.
@@ -96,7 +96,7 @@ impl<'s> Player<'s> {
             read: 0,
             allowed: Vec::new(alloc),
             mark: 0,
-            polled: false,
+            polled: None,
         }
     }
 
@@ -256,7 +256,7 @@ impl<'s> Player<'s> {
     pub fn put<S: Station>(&mut self, station: &mut S, octets: Vec<u8>) -> Result<(), Stop> {
         let at = station.now();
         let sent = station.send(octets.as_slice());
-        self.polled = is_poll(octets.as_slice());
+        self.polled = polled_since(self.polled, octets.as_slice(), at);
         self.mark = at;
         self.has_asked = false;
         self.note(at, What::Sent, octets)?;
@@ -330,15 +330,16 @@ impl<'s> Player<'s> {
         Ok(Some(place))
     }
 
-    /// Measures how late the stack answers a poll.
+    /// Measures how late the stack answers a poll. A repeated poll was first sent before: the stack
+    /// may answer that one.
     fn measure(&mut self, at: u64, octets: &[u8]) {
-        if self.polled
+        if let Some(since) = self.polled
             && let Some(frame) = Received::read(&self.values, octets)
             && frame.role == Role::Answer
             && frame.bit
         {
-            self.latency = self.latency.max(at.saturating_sub(self.mark));
-            self.polled = false;
+            self.latency = self.latency.max(at.saturating_sub(since));
+            self.polled = None;
         }
     }
 
@@ -679,6 +680,18 @@ fn asked(request: Request) -> Option<What> {
         Request::Busy => Some(What::Asked(Ask::Busy(true))),
         Request::Ready => Some(What::Asked(Ask::Busy(false))),
         Request::Ask | Request::Check | Request::Remove => None,
+    }
+}
+
+/// The moment of the first poll that waits for its response after the tester sent these octets at
+/// the moment `at`, and before since `polled`. A frame that is no poll ends the measurement.
+fn polled_since(polled: Option<u64>, octets: &[u8], at: u64) -> Option<u64> {
+    if !is_poll(octets) {
+        return None;
+    }
+    match polled {
+        Some(since) => Some(since),
+        None => Some(at),
     }
 }
 

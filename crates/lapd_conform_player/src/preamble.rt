@@ -106,9 +106,12 @@ impl Player<'_> {
     /// State 4 after a DISC was answered, whatever the case before has left. After UA the link may
     /// await its own release (state 6); then the next DISC is answered by UA again. After DM it may
     /// await its establishment (state 5). Its frames are answered until none comes for T200. If layer
-    /// 3 of the stack acts by itself, frames may come for ever, and nothing is done.
+    /// 3 of the stack acts by itself, frames may come for ever, and only the first is answered.
     pub fn calm<S: Station>(&mut self, station: &mut S) -> Result<(), Stop> {
         if self.values.stack.is_active {
+            if !self.was_linked {
+                self.answers_request(station)?;
+            }
             return Ok(());
         }
         if self.was_linked {
@@ -184,10 +187,10 @@ impl Player<'_> {
 
     /// State 7: SABME until UA with F=1. A SABME that crosses is answered by UA.
     fn establish<S: Station>(&mut self, station: &mut S) -> Result<(), Stop> {
-        for _turn in 0..MOST_TRIES {
+        for turn in 0..MOST_TRIES {
             self.send_octets(station, Role::Command, SABME)?;
             if self.is_established(station)? {
-                return self.settle(station);
+                return self.settle(station, turn > 0);
             }
         }
         missed(Preamble::Established)
@@ -213,9 +216,15 @@ impl Player<'_> {
         Ok(false)
     }
 
-    /// Answers a SABME that crossed. A message of layer 3 ends the case.
-    fn settle<S: Station>(&mut self, station: &mut S) -> Result<(), Stop> {
-        let until = self.later(station, self.transit().saturating_add(60));
+    /// Answers a SABME that crossed. A message of layer 3 ends the case. If SABME was sent again, each
+    /// of them is answered, as late as the first one.
+    fn settle<S: Station>(&mut self, station: &mut S, is_repeated: bool) -> Result<(), Stop> {
+        let wait = if is_repeated {
+            self.slack(station)
+        } else {
+            self.transit().saturating_add(60)
+        };
+        let until = self.later(station, wait);
         for _turn in 0..MOST_FRAMES {
             match self.next_kind(station, until)? {
                 Some((Role::Command, Kind::Sabme, _)) => self.send_octets(

@@ -187,6 +187,7 @@ pub(crate) fn right(side: Side, is_primary: bool, delay: u32) -> Own {
         planted: Planted::Nothing,
         is_kept: false,
         delay,
+        idle: 0,
     }
 }
 
@@ -249,6 +250,26 @@ fn own_sides_pass_that_are_kept(rt: HostRuntime) -> Result<(), Fail> {
 fn no_case_fails_over_slow_lines(rt: HostRuntime) -> Result<(), Fail> {
     no_case_fails(rt.alloc(), false, 350, 60)?;
     Ok(())
+}
+
+/// A stack that takes no frame for four seconds after its start answers each SABME late, and then
+/// all of them.
+#[test]
+fn no_case_fails_if_the_stack_begins_late(rt: HostRuntime) -> Result<(), Fail> {
+    let own = Own {
+        idle: 4_000,
+        ..right(Side::Network, true, 0)
+    };
+    let mut tally = Tally::new(rt.alloc());
+    let played = tally.play_suite(own, "");
+    if played.is_ok() && tally.failed.is("") && tally.passed > 150 {
+        return Ok(());
+    }
+    let (passed, inconclusive) = (tally.passed, tally.inconclusive);
+    let (failed, doubted) = (tally.failed.as_str(), tally.doubted.as_str());
+    Err(Fail::new(format_args!(
+        "{passed} passed, {inconclusive} inconclusive:{doubted}, failed:{failed}"
+    )))
 }
 
 /// Wrong stacks: what is wrong, the planted fault, and a case that finds it. Octets are the third

@@ -60,6 +60,8 @@ pub(crate) struct Own {
     pub is_kept: bool,
     /// The greatest delay of a frame, in milliseconds.
     pub delay: u32,
+    /// How long the stack takes no frame after it was started, in milliseconds.
+    pub idle: u32,
 }
 
 /// A frame in transit, and the moment at which it arrives.
@@ -77,6 +79,8 @@ pub(crate) struct OwnStation {
     side: EitherSide,
     acts: Acts,
     now: u64,
+    /// The moment from which the stack takes frames.
+    ready: u64,
     to_stack: Vec<Transit>,
     from_stack: Vec<Transit>,
     last: [u64; 2],
@@ -153,6 +157,7 @@ impl OwnStation {
             side,
             acts,
             now: 0,
+            ready: u64::from(own.idle),
             to_stack: Vec::new(alloc),
             from_stack: Vec::new(alloc),
             last: [0, 0],
@@ -168,7 +173,7 @@ impl OwnStation {
         let delay = u64::from(self.draws.below(self.own.delay.saturating_add(1)));
         let at = self.now.saturating_add(delay);
         if way == 0 {
-            self.last[0] = at.max(self.last[0]);
+            self.last[0] = at.max(self.last[0]).max(self.ready);
             self.last[0]
         } else {
             self.last[1] = at.max(self.last[1]);
@@ -322,6 +327,7 @@ impl OwnStation {
     fn renew(&mut self) -> Result<(), AllocError> {
         let side = made_side(self.alloc, self.own, self.now)?;
         self.side = side;
+        self.ready = self.now.saturating_add(u64::from(self.own.idle));
         self.to_stack.clear();
         self.from_stack.clear();
         Ok(())
