@@ -23,7 +23,6 @@ mod file_kind;
 mod format;
 mod gsmtap;
 mod interface;
-mod internet;
 mod item;
 mod laws;
 mod link_type;

@@ -21,7 +21,6 @@ mod files;
 mod greeting;
 mod job;
 mod live;
-mod local_zone;
 mod log;
 mod output;
 

@@ -1,6 +1,5 @@
 pub mod ByKind
 pub mod Closed
-pub mod Colored
 pub mod Lines
 pub mod LiveLadder
 pub mod LooseLine

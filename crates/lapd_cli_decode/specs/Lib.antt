@@ -23,4 +23,3 @@ pub mod ShownText
 pub mod Style
 pub mod Tables
 pub mod Time
-pub mod Timed

@@ -33,5 +33,3 @@ mod read;
 mod senders;
 #[cfg(test)]
 mod written;
-#[cfg(test)]
-mod zones;

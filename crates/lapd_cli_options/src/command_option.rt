@@ -120,9 +120,7 @@ fn word_arg<'a>(alloc: Global, option: &WordOption) -> Arg<'a> {
 }
 
 fn bare_word_arg<'a>(alloc: Global, option: &WordOption) -> Arg<'a> {
-    value_arg(alloc, option.name, option.value_name, option.help)
-        .value_parser(option.words)
-        .hide_possible_values(true)
+    value_arg(alloc, option.name, option.value_name, option.help).value_parser(option.words)
 }
 
 fn words_arg<'a>(alloc: Global, option: &WordOption) -> Arg<'a> {

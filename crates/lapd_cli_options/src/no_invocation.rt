@@ -26,8 +26,7 @@ pub enum NoInvocation<'a> {
     NotLinks(&'static str),
     /// The option with this name, without the hyphens, requires `--names`, which is absent.
     NotNamed(&'static str),
-    /// The option with this name, without the hyphens, requires a capture or a log: there is no file,
-    /// and standard input is read as a script.
+    /// The option with this name, without the hyphens, requires a capture, and there is no file.
     NotCaptured(&'static str),
     /// `--pcap` is present, and files besides.
     PcapAndFile,
@@ -67,7 +66,7 @@ impl fmt::Display for NoInvocation<'_> {
             NoInvocation::NotCaptured(option) => {
                 writeln!(
                     f,
-                    "error: --{option} requires a capture or a log: --pcap FILE, FILE, or --loose"
+                    "error: --{option} requires a capture: --pcap FILE, or FILE"
                 )
             }
             NoInvocation::PcapAndFile => {

@@ -174,7 +174,7 @@ const LIVE: &[CommandOption] = &[
 const SIDE: WordOption = WordOption {
     name: "side",
     value_name: "SIDE",
-    help: "The side of the link, net or user",
+    help: "The side of the link",
     words: &["net", "user"],
     default: "net",
 };
@@ -187,14 +187,12 @@ const SENDER: WordOption = WordOption {
     ..SIDE
 };
 
-/// The time before each trace line that `decode` prints of a capture or a log.
+/// The time before each trace line that `decode` prints of a capture.
 const FRAME_TIME: WordOption = WordOption {
     name: "time",
     value_name: "TIME",
     help: help::FRAME_TIME,
-    words: &[
-        "none", "absolute", "relative", "delta", "day", "utc", "local",
-    ],
+    words: &["none", "absolute", "relative", "delta", "day"],
     default: "none",
 };
 

@@ -36,27 +36,19 @@ impl Tallies {
         })
     }
 
-    /// Counts a frame of its link, which is followed or not.
-    fn add(
-        &mut self,
-        packet: Packet,
-        sender: Side,
-        frame: &Frame<'_>,
-        said: &Remarks,
-        is_followed: bool,
-    )
-        ensures { self.new ≡ tallied_on_line (sighting packet sender frame.now) said.now is_followed
-            self.old }
+    /// Counts a frame of its link.
+    fn add(&mut self, packet: Packet, sender: Side, frame: &Frame<'_>, said: &Remarks)
+        ensures { self.new ≡ tallied_on_line (sighting packet sender frame.now) said.now self.old }
     {
         let address = frame.address();
         let Some(slot) = self.links.get_mut(place_of(&address)) else {
             unreachable!()
         };
         match slot {
-            Some(link) => link.add(packet, sender, frame, said, is_followed),
+            Some(link) => link.add(packet, sender, frame, said),
             None => {
                 let mut link = LinkTally::new(&address);
-                link.add(packet, sender, frame, said, is_followed);
+                link.add(packet, sender, frame, said);
                 *slot = Some(link);
             }
         }
@@ -156,9 +148,8 @@ impl Listener {
         ensures unchanged { OnErr result (self.new ≡ self.old) }
         ensures no_remarks { OnErr result (said.new ≡ said.old) }
     {
-        let is_followed = self.follower.is_followed(&frame.address());
         self.follower.frame_into(packet, sender, frame, said)?;
-        self.tallies.add(packet, sender, frame, said, is_followed);
+        self.tallies.add(packet, sender, frame, said);
         self.is_violated = self.is_violated || said.has_violation();
         Ok(())
     }

@@ -1,3 +1,0 @@
-pub mod Calendar
-pub mod Rule
-pub mod Zone
