@@ -13,7 +13,7 @@ _lapd() {
         --clock) offered="script real" ;;
         --kinds) offered="i s u" ;;
         --color) offered="auto always never" ;;
-        --time) [[ ${COMP_WORDS[1]} == decode ]] && offered="none absolute relative delta day" ;;
+        --time) [[ ${COMP_WORDS[1]} == decode ]] && offered="none absolute relative delta day utc local" ;;
         --ladder)
             if [[ ${COMP_WORDS[1]} == net || ${COMP_WORDS[1]} == user ]]; then
                 mapfile -t COMPREPLY < <(compgen -f -- "$word")
@@ -26,6 +26,8 @@ _lapd() {
         --listen | --connect | --gsmtap | --upper | --cases) return ;;
     esac
     if [[ -z $offered && ${COMP_WORDS[1]} == decode && $word != -* ]]; then
+        # a folder ends with a slash
+        compopt -o filenames 2>/dev/null
         mapfile -t COMPREPLY < <(compgen -f -- "$word")
         return
     fi

@@ -9,7 +9,7 @@ use Rattle.lapd_capture.specs.declared.item.PacketFault.TheVariants.{NoInterface
 use Rattle.lapd_capture.specs.declared.fault.CaptureFault.{CaptureFault}
 use Rattle.lapd_capture.specs.declared.fault.CaptureFault.TheVariants.{NotACapture, Gzip, LinkNotServed, Cut, BadLength, TooManyInterfaces}
 use Rattle.lapd_capture.specs.declared.link_type.LinkType.{LinkType}
-use Rattle.lapd_capture.specs.declared.link_type.LinkType.TheVariants.{LinuxLapd, Lapd, Ethernet, Ip, Cooked, Cooked2, NotServed}
+use Rattle.lapd_capture.specs.declared.link_type.LinkType.TheVariants.{LinuxLapd, Lapd, Ethernet, Ip, Loopback, Cooked, Cooked2, NotServed}
 use Rattle.lapd_capture.specs.declared.interface.Interface.{Interface}
 use Rattle.lapd_capture.specs.declared.format.Format.{Format}
 use Rattle.lapd_capture.specs.declared.format.Format.TheVariants.{Pcap, Pcapng}
@@ -230,6 +230,7 @@ unserved LinuxLapd = None
 unserved Lapd = None
 unserved Ethernet = None
 unserved Ip = None
+unserved Loopback = None
 unserved Cooked = None
 unserved Cooked2 = None
 unserved (NotServed number) = Some number

@@ -102,7 +102,7 @@ fn lapd2(start: usize, kept: usize, end: usize, octets: &[u8]) -> CaptureItem
     ensures exact { result ≡ lapd2 start kept end octets.now }
     ensures within { IsWithin (length octets.now) result }
 {
-    let side = capturing_side(octets[start + 12]);
+    let side = capturing_side(usize::from(octets[start + 11]), octets[start + 12]);
     CaptureItem::Frame(Span {
         from: sender_of(usize::from(octets[start + 10]), side),
         is_sure: true,

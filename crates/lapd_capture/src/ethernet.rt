@@ -3,12 +3,15 @@
 ghost use Rattle.std.specs.Prelude.{◌≡◌, ◌≤◌, length};
 ghost use Rattle.lapd_capture.specs.Packet.{IsWithin, ethernet, first_tag, is_tag, last_tag, typed, untagged};
 
-use crate::gsmtap::ip;
+use crate::internet::{ip, ip6};
 use crate::item::{CaptureItem, PacketFault};
 use crate::order::Order;
 
 /// The EtherType of IPv4.
 const IP: usize = 0x0800;
+
+/// The EtherType of IPv6.
+const IP_6: usize = 0x86dd;
 
 /// The EtherType of a VLAN tag of a customer (IEEE 802.1Q).
 const CUSTOMER_TAG: usize = 0x8100;
@@ -121,10 +124,12 @@ fn untagged(kind: usize, start: usize, kept: usize, end: usize, octets: &[u8]) -
     ensures within { IsWithin (length octets.now) result }
 {
     if kind == IP {
-        ip(start, kept, end, octets)
-    } else {
-        CaptureItem::Other
+        return ip(start, kept, end, octets);
     }
+    if kind == IP_6 {
+        return ip6(start, kept, end, octets);
+    }
+    CaptureItem::Other
 }
 
 /// Whether a VLAN tag follows this EtherType.

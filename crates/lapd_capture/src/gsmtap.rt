@@ -1,17 +1,11 @@
-//! GSMTAP over UDP over IPv4.
+//! GSMTAP datagrams.
 
 ghost use Rattle.std.specs.Prelude.{◌≡◌, ◌≤◌, ◌<◌, ◌+◌, length};
-ghost use Rattle.lapd_capture.specs.Packet.{ip, ip_payload, udp, gsmtap, gsmtap_frame, gsmtap_sender, is_uplink, IsWithin};
+ghost use Rattle.lapd_capture.specs.Packet.{IsWithin, gsmtap, gsmtap_frame, gsmtap_sender, is_uplink};
 
 use crate::item::{CaptureItem, PacketFault, Span};
 use crate::order::Order;
 use lapd_field::Side;
-
-/// The protocol number of UDP.
-const UDP: u8 = 17;
-
-/// The UDP port of GSMTAP.
-const PORT: usize = 4729;
 
 /// The least length of a GSMTAP header, in octets.
 const LEAST_HEADER: usize = 16;
@@ -22,100 +16,10 @@ const LINE_TYPE: u8 = 0x13;
 /// The GSMTAP subtype of LAPD on them.
 const LAPD_SUBTYPE: u8 = 1;
 
-const BAD_LENGTH: CaptureItem = CaptureItem::Unreadable(PacketFault::BadLength);
-
 const CUT: CaptureItem = CaptureItem::Unreadable(PacketFault::CutHeader);
 
-/// The content of an IPv4 packet, if it is no fragment and carries UDP.
-pub(crate) fn ip(start: usize, kept: usize, end: usize, octets: &[u8]) -> CaptureItem
-    requires order { start ≤ kept }
-    requires cut { kept ≤ end }
-    requires within { kept ≤ length octets.now }
-    ensures exact { result ≡ ip start kept end octets.now }
-    ensures within { IsWithin (length octets.now) result }
-{
-    if end - start < 20 {
-        return BAD_LENGTH;
-    }
-    if kept - start < 20 {
-        return CUT;
-    }
-    if octets[start] / 16 != 4 {
-        return CaptureItem::Other;
-    }
-    if octets[start + 9] != UDP {
-        return CaptureItem::Other;
-    }
-    if Order::Big.u16_at(start + 6, octets) % 0x4000 != 0 {
-        return CaptureItem::Other;
-    }
-    let header = usize::from(octets[start] % 16) * 4;
-    let total = Order::Big.u16_at(start + 2, octets);
-    ip_payload(header, total, start, kept, end, octets)
-}
-
-/// The content after an IPv4 header of this length, in a packet of this total length.
-fn ip_payload(
-    header: usize,
-    total: usize,
-    start: usize,
-    kept: usize,
-    end: usize,
-    octets: &[u8],
-) -> CaptureItem
-    requires header { header < 64 }
-    requires order { start ≤ kept }
-    requires cut { kept ≤ end }
-    requires within { kept ≤ length octets.now }
-    ensures exact { result ≡ ip_payload header total start kept end octets.now }
-    ensures within { IsWithin (length octets.now) result }
-{
-    if header < 20 {
-        return BAD_LENGTH;
-    }
-    if total < header + 8 {
-        return BAD_LENGTH;
-    }
-    if end - start < total {
-        return BAD_LENGTH;
-    }
-    if kept - start < header {
-        return CUT;
-    }
-    udp(
-        start + header,
-        kept.min(start + total),
-        start + total,
-        octets,
-    )
-}
-
-/// The content of a UDP datagram, if it is sent to the port of GSMTAP.
-fn udp(start: usize, kept: usize, end: usize, octets: &[u8]) -> CaptureItem
-    requires order { start ≤ kept }
-    requires cut { kept ≤ end }
-    requires within { kept ≤ length octets.now }
-    ensures exact { result ≡ udp start kept end octets.now }
-    ensures within { IsWithin (length octets.now) result }
-{
-    if kept - start < 8 {
-        return CUT;
-    }
-    if Order::Big.u16_at(start + 2, octets) != PORT {
-        return CaptureItem::Other;
-    }
-    let count = Order::Big.u16_at(start + 4, octets);
-    if count < 8 {
-        return BAD_LENGTH;
-    }
-    if end - start < count {
-        return BAD_LENGTH;
-    }
-    gsmtap(start + 8, kept.min(start + count), start + count, octets)
-}
-
 /// The frame after a GSMTAP header of version 2, if it is a LAPD frame.
-fn gsmtap(start: usize, kept: usize, end: usize, octets: &[u8]) -> CaptureItem
+pub(crate) fn gsmtap(start: usize, kept: usize, end: usize, octets: &[u8]) -> CaptureItem
     requires order { start ≤ kept }
     requires cut { kept ≤ end }
     requires within { kept ≤ length octets.now }
@@ -123,13 +27,13 @@ fn gsmtap(start: usize, kept: usize, end: usize, octets: &[u8]) -> CaptureItem
     ensures within { IsWithin (length octets.now) result }
 {
     if end - start < LEAST_HEADER {
-        return BAD_LENGTH;
+        return CaptureItem::NotGsmtap;
     }
     if kept - start < LEAST_HEADER {
         return CUT;
     }
     if octets[start] != 2 {
-        return CaptureItem::Other;
+        return CaptureItem::NotGsmtap;
     }
     if octets[start + 2] != LINE_TYPE {
         return CaptureItem::Other;
@@ -150,10 +54,10 @@ fn gsmtap_frame(header: usize, start: usize, kept: usize, end: usize, octets: &[
     ensures within { IsWithin (length octets.now) result }
 {
     if header < LEAST_HEADER {
-        return BAD_LENGTH;
+        return CaptureItem::NotGsmtap;
     }
     if end - start < header {
-        return BAD_LENGTH;
+        return CaptureItem::NotGsmtap;
     }
     if kept - start < header {
         return CUT;

@@ -24,6 +24,8 @@ pub enum CaptureItem {
     Frame(Span),
     /// A packet or block without a LAPD frame.
     Other,
+    /// A datagram to the port of GSMTAP that is not GSMTAP of version 2. Anybody can send one.
+    NotGsmtap,
     /// A packet that can't be read. Reading can continue after it.
     Unreadable(PacketFault),
     /// The end of the capture.

@@ -23,6 +23,7 @@ mod file_kind;
 mod format;
 mod gsmtap;
 mod interface;
+mod internet;
 mod item;
 mod laws;
 mod link_type;

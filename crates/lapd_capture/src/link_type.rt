@@ -10,10 +10,13 @@ pub enum LinkType {
     LinuxLapd,
     /// LINKTYPE_LAPD, 203: no header, so the sender of a frame is unknown.
     Lapd,
-    /// LINKTYPE_ETHERNET, 1: Ethernet, perhaps VLAN tags, IPv4, UDP and GSMTAP.
+    /// LINKTYPE_ETHERNET, 1: Ethernet, perhaps VLAN tags, IPv4 or IPv6, UDP and GSMTAP.
     Ethernet,
-    /// LINKTYPE_RAW, 101, and LINKTYPE_IPV4, 228: IPv4, UDP and GSMTAP.
+    /// LINKTYPE_RAW, 101, and 12 on most systems, LINKTYPE_IPV4, 228, and LINKTYPE_IPV6, 229: IPv4
+    /// or IPv6, UDP and GSMTAP.
     Ip,
+    /// LINKTYPE_NULL, 0, and LINKTYPE_LOOP, 108: four octets of the protocol family, then the same.
+    Loopback,
     /// LINKTYPE_LINUX_SLL, 113, of all interfaces of Linux: 16 octets with a protocol, then a frame
     /// as in LINKTYPE_LINUX_LAPD, or what follows the addresses of Ethernet.
     Cooked,
@@ -32,7 +35,8 @@ impl LinkType {
             177 => LinkType::LinuxLapd,
             203 => LinkType::Lapd,
             1 => LinkType::Ethernet,
-            101 | 228 => LinkType::Ip,
+            12 | 101 | 228 | 229 => LinkType::Ip,
+            0 | 108 => LinkType::Loopback,
             113 => LinkType::Cooked,
             276 => LinkType::Cooked2,
             _ => LinkType::NotServed(number),
@@ -48,6 +52,7 @@ impl LinkType {
             | LinkType::Lapd
             | LinkType::Ethernet
             | LinkType::Ip
+            | LinkType::Loopback
             | LinkType::Cooked
             | LinkType::Cooked2 => None,
         }

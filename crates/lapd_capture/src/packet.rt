@@ -1,11 +1,11 @@
 //! The content of a packet of a capture, by the link type of its interface.
 
 ghost use Rattle.std.specs.Prelude.{◌≡◌, ◌≤◌, ◌<◌, ◌+◌, ◌^◌, length};
-ghost use Rattle.lapd_capture.specs.Packet.{linux_lapd, capturing_side, captured_packet_at, sender_of, packet_at, IsWithin};
+ghost use Rattle.lapd_capture.specs.Packet.{linux_lapd, capturing_side, captured_packet_at, sender_of, sent_by_type, packet_at, IsWithin};
 
 use crate::cooked::{cooked, cooked2};
 use crate::ethernet::ethernet;
-use crate::gsmtap::ip;
+use crate::internet::{any_ip, loopback};
 use crate::item::{CaptureItem, PacketFault, Span};
 use crate::link_type::LinkType;
 use crate::order::Order;
@@ -54,7 +54,8 @@ fn packet_at(link: LinkType, start: usize, kept: usize, end: usize, octets: &[u8
             is_cut: kept < end,
         }),
         LinkType::Ethernet => ethernet(start, kept, end, octets),
-        LinkType::Ip => ip(start, kept, end, octets),
+        LinkType::Ip => any_ip(start, kept, end, octets),
+        LinkType::Loopback => loopback(start, kept, end, octets),
         LinkType::Cooked => cooked(start, kept, end, octets),
         LinkType::Cooked2 => cooked2(start, kept, end, octets),
         LinkType::NotServed(_) => CaptureItem::Other,
@@ -78,7 +79,8 @@ pub(crate) fn linux_lapd(start: usize, kept: usize, end: usize, octets: &[u8]) -
     if Order::Big.u16_at(start + 14, octets) != PROTOCOL {
         return CaptureItem::Unreadable(PacketFault::BadHeader);
     }
-    let side = capturing_side(octets[start + 6]);
+    let length = Order::Big.u16_at(start + 4, octets);
+    let side = capturing_side(length, octets[start + 6]);
     CaptureItem::Frame(Span {
         from: sender_of(Order::Big.u16_at(start, octets), side),
         is_sure: true,
@@ -88,19 +90,33 @@ pub(crate) fn linux_lapd(start: usize, kept: usize, end: usize, octets: &[u8]) -
     })
 }
 
-/// The side that captured, by the first octet of the address.
-pub(crate) fn capturing_side(first: u8) -> Side
-    ensures { result ≡ capturing_side first }
+/// The side that captured, by the length of the address and its first octet; `None` if there is no
+/// address.
+pub(crate) fn capturing_side(length: usize, first: u8) -> Option<Side>
+    ensures { result ≡ capturing_side length first }
 {
+    if length == 0 {
+        return None;
+    }
     match first {
-        0 => Side::User,
-        _ => Side::Network,
+        0 => Some(Side::User),
+        _ => Some(Side::Network),
+    }
+}
+
+/// Who sent a frame that this side captured, by the packet type; `None` if the side is not known.
+pub(crate) fn sender_of(packet_type: usize, side: Option<Side>) -> Option<Side>
+    ensures { result ≡ sender_of packet_type side }
+{
+    match side {
+        None => None,
+        Some(side) => sent_by_type(packet_type, side),
     }
 }
 
 /// Who sent a frame that this side captured, by the packet type.
-pub(crate) fn sender_of(packet_type: usize, side: Side) -> Option<Side>
-    ensures { result ≡ sender_of packet_type side }
+fn sent_by_type(packet_type: usize, side: Side) -> Option<Side>
+    ensures { result ≡ sent_by_type packet_type side }
 {
     match packet_type {
         0..=2 => Some(side.other()),

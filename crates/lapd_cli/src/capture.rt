@@ -2,11 +2,11 @@
 
 use crate::ending::{print_memory, print_violation};
 use crate::job::{follow_of, frames_of};
+use crate::local_zone::zone_of;
 use crate::output::{Output, Text, begin_text, close_output, end_text};
 use lapd_cli_console::{Escaped, READER_GONE, Watched, is_reader_gone};
 use lapd_cli_decode::{
-    CaptureReader, CaptureStop, CaptureStyle, Follow, ReadFault, Seen, decode_capture,
-    follow_capture,
+    CaptureReader, CaptureStop, CaptureStyle, Follow, ReadFault, Seen, Zone, decode_capture_in,
 };
 use lapd_cli_options::DecodeOptions;
 use lapd_cli_script::{KindReason, Reason, ScriptFault};
@@ -75,7 +75,8 @@ fn print_capture<R: Read>(
     let Ok(mut out) = BufWriter::new(rt.alloc(), Watched::new(writer)) else {
         return print_memory(rt);
     };
-    let ended = print_framed(rt, capture, text, &mut out, how, follow_of(options));
+    let zone = zone_of(rt, options.time);
+    let ended = print_framed(rt, capture, text, &mut out, how, follow_of(options), zone);
     // Text that a failed writer did not accept is dropped.
     let (watched, _left) = out.into_parts();
     let is_read = ended.is_ok();
@@ -101,29 +102,17 @@ fn print_framed<R: Read, W: Write>(
     out: &mut W,
     how: CaptureStyle,
     follow: Option<Follow>,
+    zone: Zone,
 ) -> Result<Seen, CaptureStop> {
     if !begin_text(text, out) {
         return Err(CaptureStop::Device);
     }
-    let ended = print_frames(rt, capture, out, how, follow);
+    let errors = &mut rt.stderr();
+    let ended = decode_capture_in(rt.alloc(), zone, capture, out, errors, how, follow);
     let is_written = end_text(text, out) && out.flush().is_ok();
     match ended {
         Ok(_) if !is_written => Err(CaptureStop::Device),
         ended => ended,
-    }
-}
-
-// Prints the frames of a capture, and follows the links if that is requested.
-fn print_frames<R: Read, W: Write>(
-    rt: &HostRuntime,
-    capture: &mut CaptureReader<R>,
-    out: &mut W,
-    how: CaptureStyle,
-    follow: Option<Follow>,
-) -> Result<Seen, CaptureStop> {
-    match follow {
-        None => decode_capture(rt.alloc(), capture, out, &mut rt.stderr(), how),
-        Some(follow) => { follow_capture(rt.alloc(), capture, out, &mut rt.stderr(), how, follow) }
     }
 }
 

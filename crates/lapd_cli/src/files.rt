@@ -144,17 +144,20 @@ fn read_text<R: Read + Drop>(
     }
     let is_script = !options.loose && is_script(rt, front.as_slice());
     let source = front.as_slice().chain(source);
+    if options.loose {
+        return run_script(rt, chosen, Some(file), source, output);
+    }
+    if !is_script {
+        let _ = eprintln!(rt; "{}: read as a log (--loose)", Escaped(file));
+        return run_script(rt, &as_log(rt, chosen, options), Some(file), source, output);
+    }
     match options.time {
-        PrintedTime::Hidden if is_script || options.loose => {
-            run_script(rt, chosen, Some(file), source, output)
-        }
-        PrintedTime::Hidden => {
-            let _ = eprintln!(rt; "{}: read as a log (--loose)", Escaped(file));
-            run_script(rt, &as_log(rt, chosen, options), Some(file), source, output)
-        }
+        PrintedTime::Hidden => run_script(rt, chosen, Some(file), source, output),
         _ => {
             let file = Escaped(file);
-            let _ = eprintln!(rt; "error: --time requires a capture, and {file} is text");
+            let _ = eprintln!(rt;
+                "error: --time requires a capture or a log, and {file} is a script"
+            );
             ExitCode::from(COMMAND_LINE)
         }
     }

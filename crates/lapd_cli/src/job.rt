@@ -208,7 +208,7 @@ fn run_any_lines<R: Read, W: Write>(
 ) -> Result<(), Stop> {
     match how.form {
         LineForm::Strict => run_lines(rt, script, out, how, chosen.strict),
-        LineForm::Loose(_) => run_log(rt, chosen, script, out, how, options),
+        LineForm::Loose(_) | LineForm::Timed(_) => run_log(rt, chosen, script, out, how, options),
     }
 }
 
@@ -298,14 +298,15 @@ fn style_of(options: DecodeOptions) -> Style {
     }
 }
 
-// The time before a trace line.
-fn time_of(time: PrintedTime) -> FrameTime {
+/// The time before a trace line.
+pub fn time_of(time: PrintedTime) -> FrameTime {
     match time {
         PrintedTime::Hidden => FrameTime::Hidden,
         PrintedTime::Absolute => FrameTime::Absolute,
         PrintedTime::Relative => FrameTime::Relative,
         PrintedTime::Delta => FrameTime::Delta,
         PrintedTime::Day => FrameTime::Day,
+        PrintedTime::Utc | PrintedTime::Local => FrameTime::Date,
     }
 }
 
@@ -360,7 +361,7 @@ fn run_net<R: Read, W: Write>(
         config_of(setup.interface, setup.interface.seed.unwrap_or(SCRIPT_SEED)),
         setup.interface.teis.as_slice(),
     );
-    connection::close(rt, &notes, stream);
+    connection::close(rt, &notes, stream, is_port_fault(&ended));
     ended.map_err(Stop::Script)
 }
 
@@ -383,8 +384,13 @@ fn run_user<R: Read, W: Write>(
         config_of(setup.interface, setup.interface.seed.unwrap_or(SCRIPT_SEED)),
         setup.interface.fixed(),
     );
-    connection::close(rt, &notes, stream);
+    connection::close(rt, &notes, stream, is_port_fault(&ended));
     ended.map_err(Stop::Script)
+}
+
+// Whether a fault of the connection ended a script.
+fn is_port_fault(ended: &Result<(), ScriptFault>) -> bool {
+    matches!(ended, Err(ScriptFault::Port(_)))
 }
 
 /// The configuration of a side of this interface, with this seed of its reference numbers.

@@ -51,8 +51,9 @@ pub fn run_live<R: Read, W: Write>(
     match clear(&mut live, options.clear) {
         Ok(()) => serve(rt, &notes, side, live, script, options.serve).map_err(stop_of),
         Err(fault) => {
-            close(live);
-            Err(stop_of(LiveStop::from(fault)))
+            let ended = Err(LiveStop::from(fault));
+            close(live, &ended);
+            ended.map_err(stop_of)
         }
     }
 }
@@ -143,7 +144,7 @@ fn serve<R: Read, W: Write>(
     } else {
         live_script(rt.alloc(), live, script, serve_on)
     };
-    close(live);
+    close(live, &ended);
     ended
 }
 
@@ -155,15 +156,22 @@ fn lines_of(side: Side) -> Script {
     }
 }
 
-/// Flushes what was printed, even after a fault; the writer remembers its own faults. Notes if the
-/// other side has closed the connection, and closes it.
-fn close<W: Write>(live: LiveSide<Line<'_>, &mut W>) {
+/// Flushes what was printed, even after a fault; the writer remembers its own faults. A fault of
+/// the connection is printed as its loss. Otherwise notes if the other side has closed the
+/// connection. Closes it.
+fn close<W: Write>(mut live: LiveSide<Line<'_>, &mut W>, ended: &Result<(), LiveStop>) {
+    let is_failed = matches!(ended, Err(LiveStop::Script(ScriptFault::Port(_))));
+    if is_failed {
+        let _ = live.print_loss();
+    }
     let (line, out, _flushed) = live.into_parts();
     let _ = out.flush();
     let (line, taps) = line.into_parts();
     taps.close();
     let connections = line.into_inner();
-    connections.print_closed();
+    if !is_failed {
+        connections.print_closed();
+    }
     connections.close();
 }
 

@@ -21,6 +21,7 @@ mod files;
 mod greeting;
 mod job;
 mod live;
+mod local_zone;
 mod log;
 mod output;
 

@@ -1,7 +1,7 @@
 //! The picture of a bus.
 
 use crate::drawing::{Mark, push_downward, push_head, push_note, push_upward};
-use crate::words::{push_refusal, push_report};
+use crate::words::{push_noted_report, push_refusal};
 use lapd_bus::Station;
 use lapd_sides::{Acts, SideKind};
 use std::alloc::{AllocError, Global};
@@ -177,7 +177,7 @@ impl Ladder {
 
     /// A new terminal is at this index.
     pub(crate) fn joined(&mut self, at: usize) -> Result<(), AllocError> {
-        let words = format!(in self.alloc; "{at} joins")?;
+        let words = format!(in self.alloc; "terminal {at} joins")?;
         self.note(words.as_str())
     }
 
@@ -224,7 +224,7 @@ impl Ladder {
     fn report(&mut self, station: Station, acts: &Acts) -> Result<(), AllocError> {
         let mut notes = String::new(self.alloc);
         for primitive in acts.primitives() {
-            push_report(self.alloc, &mut notes, station, primitive)?;
+            push_noted_report(self.alloc, &mut notes, station, primitive)?;
         }
         if self.row.is_open {
             self.row.notes.push_str(notes.as_str())

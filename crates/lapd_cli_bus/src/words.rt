@@ -41,6 +41,22 @@ pub(crate) fn push_report(
     text.push_str(line.as_str())
 }
 
+/// Appends the same as a note, in which a terminal is named as one.
+pub(crate) fn push_noted_report(
+    alloc: Global,
+    text: &mut String,
+    station: Station,
+    primitive: &Primitive,
+) -> Result<(), AllocError> {
+    let mut line = String::new(alloc);
+    push_report(alloc, &mut line, station, primitive)?;
+    match station {
+        Station::Terminal(_) if !line.is_empty() => text.push_str("terminal ")?,
+        _ => {}
+    }
+    text.push_str(line.as_str())
+}
+
 /// Appends the line of a request that this side refused.
 pub(crate) fn push_refusal(
     text: &mut String,

@@ -186,18 +186,18 @@ shown_alike style is_cut packet octets h =
     ∙ ap (shown_text style is_cut packet None octets) (read_alike octets h)
     ∙ sym (shown_as_command style is_cut packet octets (frame_at Network octets))
 
-words_as_command : (octets : List ℕ) (reading : Result Fields FrameFault)
-    → frame_words None octets reading ≡ frame_words None octets (as_command reading)
-words_as_command octets (Ok f) = refl
-words_as_command octets (Err fault) = refl
+words_as_command : (names : Bool) (octets : List ℕ) (reading : Result Fields FrameFault)
+    → frame_words names None octets reading ≡ frame_words names None octets (as_command reading)
+words_as_command names octets (Ok f) = refl
+words_as_command names octets (Err fault) = refl
 
-pub words_alike : (octets : List ℕ) → sender_by_kind octets ≡ None
-    → frame_words None octets (frame_at User octets)
-    ≡ frame_words None octets (frame_at Network octets)
-words_alike octets h =
-    words_as_command octets (frame_at User octets)
-    ∙ ap (frame_words None octets) (read_alike octets h)
-    ∙ sym (words_as_command octets (frame_at Network octets))
+pub words_alike : (names : Bool) (octets : List ℕ) → sender_by_kind octets ≡ None
+    → frame_words names None octets (frame_at User octets)
+    ≡ frame_words names None octets (frame_at Network octets)
+words_alike names octets h =
+    words_as_command names octets (frame_at User octets)
+    ∙ ap (frame_words names None octets) (read_alike octets h)
+    ∙ sym (words_as_command names octets (frame_at Network octets))
 
 ends_as_command : (side : Side) (reading : Result Fields FrameFault) (listening : Option Listening)
     → known_words side reading listening ≡ known_words side (as_command reading) listening

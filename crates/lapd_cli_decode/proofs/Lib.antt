@@ -1,5 +1,6 @@
 pub mod ByKind
 pub mod Closed
+pub mod Colored
 pub mod Lines
 pub mod LiveLadder
 pub mod LooseLine

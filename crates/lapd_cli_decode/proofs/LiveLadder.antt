@@ -7,7 +7,7 @@ use Rattle.lapd_frame.specs.declared.Side.{Side}
 use Rattle.lapd_follow.specs.Ends.{one_more}
 use Rattle.lapd_follow.specs.Listening.{Listening, listening_after, new_listening}
 use Rattle.lapd_capture.specs.declared.CaptureItem.{CaptureItem}
-use Rattle.lapd_capture.specs.declared.CaptureItem.TheVariants.{Frame, Other, Unreadable, End}
+use Rattle.lapd_capture.specs.declared.CaptureItem.TheVariants.{Frame, Other, NotGsmtap, Unreadable, End}
 use Rattle.lapd_capture.specs.declared.CaptureFault.{CaptureFault}
 use Rattle.lapd_capture.specs.ReadBack.{LineFrame, line_packet, line_reading, line_span, read_moment, records_of}
 use Rattle.lapd_capture.specs.Reading.{Reading, Step, next_step, opened}
@@ -22,12 +22,14 @@ use Rattle.lapd_cli_decode.specs.Captured.{CaptureEnds, IsFinished, Place, Print
 use Rattle.lapd_cli_decode.specs.Frames.{Printing, after_frame, closing_text, followed_packet, frame_text, is_complete}
 use Rattle.lapd_cli_decode.specs.LiveLadder.{AreCaptured, DecodesAs, PrintsOnly, captured_ladder, ladder_style, microseconds, new_ladder, rung_of, rungs_of}
 use Rattle.lapd_cli_decode.specs.Time.{either}
+use Rattle.lapd_zone.specs.Zone.{utc_table}
 
 -- what is known of the frames so far; whether one is certainly the user side's is of no effect
 abbrev drawing : ℕ → Bool → ℕ → Option ℕ → Option ℕ → Listening → Printing
 drawing frames has_user printed first last listening = record {
   origin = Capture;
   how = ladder_style;
+  zone = utc_table;
   frames = frames;
   has_user = has_user;
   printed = printed;
@@ -319,6 +321,7 @@ abbrev is_end : CaptureItem → Bool
 is_end End = true
 is_end (Frame span) = false
 is_end Other = false
+is_end NotGsmtap = false
 is_end (Unreadable fault) = false
 
 -- no fault, and no packet that can't be read
@@ -326,6 +329,7 @@ abbrev is_readable : CaptureItem → Bool
 is_readable End = true
 is_readable (Frame span) = true
 is_readable Other = true
+is_readable NotGsmtap = true
 is_readable (Unreadable fault) = false
 
 abbrev is_sound : Result Step CaptureFault → Bool

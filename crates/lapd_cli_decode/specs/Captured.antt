@@ -4,7 +4,7 @@ use Rattle.std.specs.Io.KnownBytes.{Appends}
 use Rattle.lapd_frame.specs.declared.Side.{Side}
 use Rattle.lapd_frame.specs.declared.Side.TheVariants.{Network, User}
 use Rattle.lapd_capture.specs.declared.CaptureItem.{CaptureItem}
-use Rattle.lapd_capture.specs.declared.CaptureItem.TheVariants.{Frame, Other, Unreadable, End}
+use Rattle.lapd_capture.specs.declared.CaptureItem.TheVariants.{Frame, Other, NotGsmtap, Unreadable, End}
 use Rattle.lapd_capture.specs.declared.PacketFault.{PacketFault}
 use Rattle.lapd_capture.specs.declared.Span.{Span}
 use Rattle.lapd_capture.specs.Reader.{reading_of, unread}
@@ -17,8 +17,9 @@ use Rattle.lapd_cli_decode.specs.declared.capture_lines.Seen.{Seen}
 use Rattle.lapd_cli_decode.specs.declared.frame_printer.Follow.{Follow}
 use Rattle.lapd_cli_decode.specs.declared.frame_printer.Origin.TheVariants.{Capture as FromCapture}
 use Rattle.lapd_cli_render.specs.declared.Packet.{Packet as JsonPacket}
-use Rattle.lapd_cli_decode.specs.Frames.{Printing, after_frame, after_missing, closing_text, frame_text, is_complete, is_violated_by, missing_text, new_printing}
+use Rattle.lapd_cli_decode.specs.Frames.{Printing, after_frame, after_missing, closing_text, frame_text, in_zone, is_complete, is_violated_by, missing_text, new_printing}
 use Rattle.lapd_cli_decode.specs.Senders.{named_or_by_kind}
+use Rattle.lapd_zone.specs.Zone.{ZoneTable}
 
 -- ---- A frame that was found; `behind` is the capture after it.
 
@@ -71,6 +72,7 @@ item_text how behind (Frame span) s = missing_text behind.missing s
     ++ found_text how behind span (after_missing behind.missing s)
 item_text how behind (Unreadable fault) s = []
 item_text how behind Other s = []
+item_text how behind NotGsmtap s = []
 item_text how behind End s = []
 
 -- what is known of the frames after one that was found
@@ -85,6 +87,7 @@ after_item how behind (Frame span) s =
     after_found how behind span (after_missing behind.missing s)
 after_item how behind (Unreadable fault) s = s
 after_item how behind Other s = s
+after_item how behind NotGsmtap s = s
 after_item how behind End s = s
 
 -- the fault of an unreadable packet, at which reading stops unless such packets are skipped
@@ -93,6 +96,7 @@ packet_fault keeps_going (Frame span) = None
 packet_fault true (Unreadable fault) = None
 packet_fault false (Unreadable fault) = Some fault
 packet_fault keeps_going Other = None
+packet_fault keeps_going NotGsmtap = None
 packet_fault keeps_going End = None
 
 -- ---- Places.
@@ -107,6 +111,13 @@ abbrev pub begins_at : CaptureStyle → Option Follow → Reading → Place
 begins_at how follow reading = record {
   reading = reading;
   printing = new_printing FromCapture how.frames follow;
+}
+
+-- the same with dates in this zone
+abbrev pub begins_in : ZoneTable → CaptureStyle → Option Follow → Reading → Place
+begins_in zone how follow reading = record {
+  reading = reading;
+  printing = in_zone zone (new_printing FromCapture how.frames follow);
 }
 
 -- this many steps lead from one place to another, and this text is printed for them

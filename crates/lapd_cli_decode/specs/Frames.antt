@@ -31,14 +31,16 @@ use Rattle.lapd_cli_decode.specs.ShownText.{shown_text}
 use Rattle.lapd_cli_decode.specs.Style.{styled_packet, styled_text}
 use Rattle.lapd_cli_decode.specs.Tables.{tables_text}
 use Rattle.lapd_cli_decode.specs.Time.{either, front_text, time_of}
+use Rattle.lapd_zone.specs.Zone.{ZoneTable, utc_table}
 
--- how frames are printed, how many there were, whether one of them is certainly the user side's,
+-- how frames are printed, the zone of dates, how many there were, whether one of them is certainly the user side's,
 -- how many of them were printed, when the first and the last of these were captured, as far as
 -- known, how many the capture says to lack, and what a listener knows of the links, if they are
 -- followed
 pub record Printing : Type 0 where
   pub origin : Origin
   pub how : FrameStyle
+  pub zone : ZoneTable
   pub frames : ℕ
   pub has_user : Bool
   pub printed : ℕ
@@ -56,6 +58,7 @@ abbrev pub new_printing : Origin → FrameStyle → Option Follow → Printing
 new_printing origin how follow = record {
   origin = origin;
   how = how;
+  zone = utc_table;
   frames = 0;
   has_user = false;
   printed = 0;
@@ -65,15 +68,19 @@ new_printing origin how follow = record {
   listening = listening_by follow;
 }
 
+-- with dates in another zone than UTC
+abbrev pub in_zone : ZoneTable → Printing → Printing
+in_zone zone s = record s { zone = zone }
+
 -- all requested frames are printed
 abbrev pub is_complete : Printing → Bool
 is_complete s = reaches s.how.count s.printed
 
 -- ---- One frame: its packet, the side that sent it, if it is known, and its octets.
 
--- the packet of the next line of a script: its number is its place among the frames
-abbrev pub line_packet : Printing → Packet
-line_packet s = record { number = one_more s.frames; moment = None; is_cut = false }
+-- the packet of the next line of a script, at this moment: its number is its place among the frames
+abbrev pub line_packet : Option ℕ → Printing → Packet
+line_packet moment s = record { number = one_more s.frames; moment = moment; is_cut = false }
 
 -- a packet, for a listener
 abbrev pub followed_packet : Packet → FollowedPacket
@@ -137,14 +144,14 @@ bare_text false origin style packet (Some from) octets = sent_text origin style 
 abbrev pub line_with : Option Remarks → Packet → Option Side → List ℕ → Printing → List ℕ
 line_with said packet from octets s = text_line (colored s.how.is_colored s.how.style
     (color_of from said) (remarked s.how.style said
-    (front_text s.how.style s.how.time (time_of s.how.time s.first s.last packet.moment)
+    (front_text s.how.style s.how.time (time_of s.how.time s.zone s.first s.last packet.moment)
     ++ bare_text (has_other_sapi s.how.any_sapi octets) s.origin s.how.style packet from octets)))
 
 -- the text of a frame that is printed, in this layout: a line, or its part of a drawing
 abbrev pub text_by : Layout → Option Remarks → Packet → Option Side → List ℕ → Printing → List ℕ
 text_by Lines said packet from octets s = line_with said packet from octets s
 text_by (Drawn drawing) said packet from octets s = drawn_frame drawing s.how s.printed packet
-    (time_of s.how.time s.first s.last packet.moment) from octets said s.listening
+    (time_of s.how.time s.zone s.first s.last packet.moment) from octets said s.listening
 
 abbrev pub text_with : Option Remarks → Packet → Option Side → List ℕ → Printing → List ℕ
 text_with said packet from octets s = text_by s.how.layout said packet from octets s

@@ -23,3 +23,4 @@ pub mod ShownText
 pub mod Style
 pub mod Tables
 pub mod Time
+pub mod Timed

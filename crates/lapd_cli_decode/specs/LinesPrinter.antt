@@ -7,5 +7,6 @@ printing_of lines = record {
   form = lines.form;
   keeps_going = lines.keeps_going;
   shown = lines.shown;
+  time = lines.time;
   printing = lines.printer;
 }

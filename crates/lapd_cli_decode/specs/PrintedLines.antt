@@ -8,20 +8,23 @@ use Rattle.lapd_cli_script.specs.declared.script.ScriptFault.TheVariants.{BadLin
 use Rattle.lapd_cli_decode.specs.declared.printed_lines.LinesStyle.{LinesStyle}
 use Rattle.lapd_cli_decode.specs.declared.frame_printer.Origin.TheVariants.{Script}
 use Rattle.lapd_cli_decode.specs.declared.line_form.LineForm.{LineForm}
-use Rattle.lapd_cli_decode.specs.declared.line_form.LineForm.TheVariants.{Strict, Loose}
+use Rattle.lapd_cli_decode.specs.declared.line_form.LineForm.TheVariants.{Strict, Loose, Timed}
 use Rattle.lapd_cli_decode.specs.declared.line_sender.LineSender.{LineSender}
 use Rattle.lapd_cli_decode.specs.declared.line_sender.LineSender.TheVariants.{Named, Printer, Peer, Unnamed, Continued}
 use Rattle.lapd_cli_decode.specs.Frames.{Printing, after_frame, closing_text, frame_text, is_complete, is_violated_by, line_packet, new_printing}
 use Rattle.lapd_cli_decode.specs.Lines.{sent_in}
 use Rattle.lapd_cli_decode.specs.LogSenders.{line_sender, printer_after}
 use Rattle.lapd_cli_decode.specs.Loose.{loose_line}
+use Rattle.lapd_cli_decode.specs.Timed.{timed_line}
 
 -- how lines are read, whether bad ones are skipped, which side printed the loose ones, as far as
--- those so far show it, and what is known of the frames before the next
+-- those so far show it, the time of the last line that had one, in microseconds since 1970, and what
+-- is known of the frames before the next
 pub record PrintingLines : Type 0 where
   pub form : LineForm
   pub keeps_going : Bool
   pub shown : Option Side
+  pub time : Option ℕ
   pub printing : Printing
 
 -- before the first line
@@ -30,20 +33,21 @@ before_lines how = record {
   form = how.form;
   keeps_going = how.keeps_going;
   shown = None;
+  time = None;
   printing = new_printing Script how.frames how.follow;
 }
 
 -- the state after the octets that this side sent
 abbrev pub after_octets : PrintingLines → Side → List ℕ → PrintingLines
 after_octets s from octets = record s {
-  printing = after_frame (line_packet s.printing) (Some from) octets s.printing;
+  printing = after_frame (line_packet s.time s.printing) (Some from) octets s.printing;
 }
 
 -- the result of a line that names a side and octets, or doesn't
 abbrev pub sent_outcome : PrintingLines → Option (Side × List ℕ) → LineOutcome PrintingLines
 sent_outcome s None = None
 sent_outcome s (Some sent) = Some (
-  frame_text (line_packet s.printing) (Some sent.0) sent.1 s.printing,
+  frame_text (line_packet s.time s.printing) (Some sent.0) sent.1 s.printing,
   after_octets s sent.0 sent.1,
 )
 
@@ -58,7 +62,7 @@ or_skipped s (Some next) = Some next
 abbrev pub after_loose : Option Side → PrintingLines → LineSender → List ℕ → PrintingLines
 after_loose chosen s sender octets = record s {
   shown = printer_after s.shown sender octets;
-  printing = after_frame (line_packet s.printing) (line_sender chosen s.shown sender octets) octets
+  printing = after_frame (line_packet s.time s.printing) (line_sender chosen s.shown sender octets) octets
       s.printing;
 }
 
@@ -66,7 +70,7 @@ after_loose chosen s sender octets = record s {
 abbrev pub loose_outcome : Option Side → PrintingLines → LineSender → List ℕ
     → LineOutcome PrintingLines
 loose_outcome chosen s sender octets = Some (
-  frame_text (line_packet s.printing) (line_sender chosen s.shown sender octets) octets s.printing,
+  frame_text (line_packet s.time s.printing) (line_sender chosen s.shown sender octets) octets s.printing,
   after_loose chosen s sender octets,
 )
 
@@ -84,12 +88,21 @@ abbrev pub loose_step : Option Side → PrintingLines → Option (LineSender × 
 loose_step chosen s None = Some ([], s)
 loose_step chosen s (Some sent) = sender_outcome chosen s sent.0 sent.1
 
+-- ---- Loose lines with times: a line without its time in front has that of the line before.
+
+abbrev pub timed_step : Option Side → PrintingLines → List ℕ → Option (ℕ × List ℕ)
+    → LineOutcome PrintingLines
+timed_step chosen s line None = loose_step chosen s (loose_line line)
+timed_step chosen s line (Some timed) =
+    loose_step chosen (record s { time = Some timed.0 }) (loose_line timed.1)
+
 -- ---- All lines.
 
 -- the result of a line of this form
 abbrev pub step_by : LineForm → PrintingLines → List ℕ → LineOutcome PrintingLines
 step_by Strict s line = or_skipped s (sent_outcome s (sent_in line))
 step_by (Loose chosen) s line = loose_step chosen s (loose_line line)
+step_by (Timed chosen) s line = timed_step chosen s line (timed_line line)
 
 -- the result of each line; after the last requested frame all lines are skipped
 abbrev pub print_step : PrintingLines → List ℕ → LineOutcome PrintingLines

@@ -1,10 +1,11 @@
 -- The line of a frame with the remarks of a listener, in each style.
-use Rattle.std.specs.Prelude.{ℕ, ◌-◌, ◌==◌, if◌then◌else◌, List, [], ◌∷◌, ◌++◌, codes, length, take, Option, Some, None, Result, Ok, Err, ⊤}
+use Rattle.std.specs.Prelude.{ℕ, ◌-◌, ◌==◌, if◌then◌else◌, true, List, [], ◌∷◌, ◌++◌, codes, length, take, Option, Some, None, Result, Ok, Err, ⊤}
 use Rattle.std.specs.Io.KnownBytes.{Appends, Keeps}
 use Rattle.lapd_follow.specs.declared.remark.Remark.{Remark}
 use Rattle.lapd_follow.specs.declared.remarks.Remarks.{Remarks}
 use Rattle.lapd_follow.specs.Remarks.{class_of}
 use Rattle.lapd_follow.specs.Texts.{class_name, clause_of, remark_text, remarks_text}
+use Rattle.lapd_cli_ladder.specs.Words.{said_beside}
 use Rattle.lapd_cli_script.specs.declared.script.LineFault.{LineFault}
 use Rattle.lapd_cli_script.specs.declared.script.LineFault.TheVariants.{Bad, Device, Memory}
 use Rattle.lapd_cli_decode.specs.declared.style.Style.{Style}
@@ -47,8 +48,8 @@ front_of NamedJson text = take (length text - 1) text
 -- the rest of the line
 abbrev pub said_behind : Style → Remarks → List ℕ
 said_behind Plain said = remarks_text said
-said_behind Named said = remarks_text said
-said_behind Brief said = remarks_text said
+said_behind Named said = remarks_text (said_beside true said)
+said_behind Brief said = remarks_text (said_beside true said)
 said_behind Json said = remarks_member said
 said_behind NamedJson said = remarks_member said
 

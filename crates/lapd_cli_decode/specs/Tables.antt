@@ -1,5 +1,5 @@
 -- The table of each link, after the last frame.
-use Rattle.std.specs.Prelude.{ℕ, ◌-◌, ◌/◌, ◌%◌, max, List, [], ◌++◌, codes, Option, Some, None, Result, Ok, Err, ⊤}
+use Rattle.std.specs.Prelude.{ℕ, ◌-◌, ◌/◌, ◌%◌, ◌==◌, ◌&&◌, ◌||◌, nat_lt, max, if◌then◌else◌, Bool, List, [], ◌++◌, codes, Option, Some, None, Result, Ok, Err, ⊤}
 use Rattle.std.specs.List.{flat_map}
 use Rattle.std.specs.Fmt.{decimal}
 use Rattle.std.specs.Io.KnownBytes.{Appends, Keeps}
@@ -16,9 +16,17 @@ use Rattle.lapd_cli_script.specs.declared.script.ScriptFault.TheVariants.{BadLin
 use Rattle.lapd_cli_decode.specs.declared.style.Style.{Style}
 use Rattle.lapd_cli_decode.specs.declared.style.Style.TheVariants.{Plain, Named, Brief, Json, NamedJson}
 
--- the I frames that were not repetitions
+-- the I frames that were followed and were not repetitions
 abbrev pub messages_of : Tally → ℕ
-messages_of t = t.kinds.i - t.repeated
+messages_of t = t.kinds.i - t.unfollowed - t.repeated
+
+-- of some I frames is known whether they are sent again, or there are none
+abbrev pub is_counted : Tally → Bool
+is_counted t = nat_lt t.unfollowed t.kinds.i || (t.kinds.i == 0)
+
+-- a count of the frames that were followed
+abbrev pub count_text : Bool → ℕ → List ℕ
+count_text is_known count = if is_known then decimal count else codes "-"
 
 -- the mean of the times, rounded down
 abbrev pub mean_of : Times → ℕ
@@ -56,9 +64,13 @@ times_text t = range_text t t.least t.greatest (middle_of t)
 -- the counts of an end
 abbrev pub counts_text : List ℕ → Tally → List ℕ
 counts_text direction t = codes "  " ++ (direction ++ (codes " messages "
-    ++ (decimal (messages_of t) ++ (codes ", octets " ++ (decimal t.octets
-    ++ (codes ", repeated " ++ (decimal t.repeated ++ (codes ", polls "
+    ++ (count_text (is_counted t) (messages_of t) ++ (codes ", octets " ++ (decimal t.octets
+    ++ (codes ", repeated " ++ (count_text (is_counted t) t.repeated ++ (codes ", polls "
     ++ decimal t.polls))))))))
+
+-- the I frames that were not followed
+abbrev pub unfollowed_text : ℕ → List ℕ
+unfollowed_text n = if nat_lt 0 n then codes ", not followed " ++ decimal n else []
 
 -- how long an end was busy
 abbrev pub busy_text : Option ℕ → List ℕ
@@ -66,16 +78,38 @@ busy_text None = []
 busy_text (Some total) = codes ", busy " ++ (seconds_digits total ++ codes " s")
 
 abbrev pub counts_line : List ℕ → Tally → List ℕ
-counts_line direction t = counts_text direction t
-    ++ (times_text t.times ++ (busy_text t.busy.total ++ codes "\n"))
+counts_line direction t = counts_text direction t ++ (unfollowed_text t.unfollowed
+    ++ (times_text t.times ++ (busy_text t.busy.total ++ codes "\n")))
 
 abbrev pub end_lines : List ℕ → Tally → List ℕ
 end_lines direction t = kinds_line direction t.kinds ++ counts_line direction t
 
+-- Why a link of which no establishment began is not followed: no UA answers a SABME, or the link was
+-- established before and no exchange shows its numbers. A link without I and S frames has none.
+abbrev pub has_numbers : Kinds → Bool
+has_numbers k = nat_lt 0 k.i || nat_lt 0 k.rr || nat_lt 0 k.rnr || nat_lt 0 k.rej
+
+abbrev pub unfollowed_reason : LinkTally → List ℕ
+unfollowed_reason t = if nat_lt 0 t.user.kinds.sabme || nat_lt 0 t.network.kinds.sabme
+    then codes ", not followed: no UA answers a SABME"
+    else codes ", not followed: no exchange shows the numbers"
+
+abbrev pub is_unfollowed : LinkTally → Bool
+is_unfollowed t = (t.establishments == 0)
+    && (has_numbers t.user.kinds || has_numbers t.network.kinds)
+
+-- from which packet a link is followed that was established before, or why it is not
+abbrev pub followed_text : LinkTally → Option ℕ → List ℕ
+followed_text t (Some packet) = codes ", followed from packet " ++ decimal packet
+followed_text t None = if is_unfollowed t then unfollowed_reason t else []
+
 -- the first line of a link
+abbrev pub head_text : LinkTally → List ℕ
+head_text t = codes "SAPI " ++ (decimal (sapi_value t.sapi) ++ (codes " TEI " ++ (decimal t.tei
+    ++ (codes ": establishments " ++ decimal t.establishments))))
+
 abbrev pub head_line : LinkTally → List ℕ
-head_line t = codes "SAPI " ++ (decimal (sapi_value t.sapi) ++ (codes " TEI " ++ (decimal t.tei
-    ++ (codes ": establishments " ++ (decimal t.establishments ++ codes "\n")))))
+head_line t = head_text t ++ (followed_text t t.followed ++ codes "\n")
 
 -- the lines of a link
 abbrev pub link_lines : LinkTally → List ℕ
@@ -102,27 +136,42 @@ abbrev pub busy_member : Option ℕ → List ℕ
 busy_member None = []
 busy_member (Some total) = codes "\"busy\":" ++ (decimal total ++ codes ",")
 
-abbrev pub first_members : Tally → List ℕ
-first_members t = codes "\"disc\":" ++ (decimal t.kinds.disc ++ (codes ",\"dm\":"
+-- a member of a count that is known
+abbrev pub count_member : List ℕ → Bool → ℕ → List ℕ
+count_member name is_known count = if is_known then codes ",\"" ++ (name ++ (codes "\":"
+    ++ decimal count)) else []
+
+abbrev pub kind_members : Tally → List ℕ
+kind_members t = codes "\"disc\":" ++ (decimal t.kinds.disc ++ (codes ",\"dm\":"
     ++ (decimal t.kinds.dm ++ (codes ",\"frmr\":" ++ (decimal t.kinds.frmr ++ (codes ",\"i\":"
-    ++ (decimal t.kinds.i ++ (codes ",\"messages\":" ++ (decimal (messages_of t)
-    ++ (codes ",\"octets\":" ++ (decimal t.octets ++ (codes ",\"polls\":"
-    ++ decimal t.polls))))))))))))
+    ++ decimal t.kinds.i))))))
+
+abbrev pub message_members : Tally → List ℕ
+message_members t = count_member (codes "messages") (is_counted t) (messages_of t)
+    ++ (codes ",\"octets\":" ++ (decimal t.octets ++ (codes ",\"polls\":" ++ decimal t.polls)))
+
+abbrev pub first_members : Tally → List ℕ
+first_members t = kind_members t ++ message_members t
 
 abbrev pub last_members : Tally → List ℕ
-last_members t = codes ",\"rej\":" ++ (decimal t.kinds.rej ++ (codes ",\"repeated\":"
-    ++ (decimal t.repeated ++ (codes ",\"rnr\":" ++ (decimal t.kinds.rnr ++ (codes ",\"rr\":"
+last_members t = codes ",\"rej\":" ++ (decimal t.kinds.rej
+    ++ (count_member (codes "repeated") (is_counted t) t.repeated ++ (codes ",\"rnr\":" ++ (decimal t.kinds.rnr ++ (codes ",\"rr\":"
     ++ (decimal t.kinds.rr ++ (codes ",\"sabme\":" ++ (decimal t.kinds.sabme
     ++ (codes ",\"ua\":" ++ (decimal t.kinds.ua ++ (codes ",\"ui\":" ++ (decimal t.kinds.ui
+    ++ (count_member (codes "unfollowed") (nat_lt 0 t.unfollowed) t.unfollowed
     ++ (codes ",\"xid\":" ++ (decimal t.kinds.xid ++ codes "}")))))))))))))))
 
 abbrev pub end_object : Tally → List ℕ
 end_object t = codes "{" ++ (times_member t.times
     ++ (busy_member t.busy.total ++ (first_members t ++ last_members t)))
 
+abbrev pub followed_member : Option ℕ → List ℕ
+followed_member None = []
+followed_member (Some packet) = codes ",\"followed\":" ++ decimal packet
+
 abbrev pub object_head : LinkTally → List ℕ
 object_head t = codes "{\"establishments\":" ++ (decimal t.establishments
-    ++ codes ",\"network\":")
+    ++ (followed_member t.followed ++ codes ",\"network\":"))
 
 abbrev pub address_members : LinkTally → List ℕ
 address_members t = codes ",\"sapi\":" ++ (decimal (sapi_value t.sapi) ++ (codes ",\"tei\":"

@@ -4,7 +4,7 @@ ghost use Rattle.std.specs.Prelude.{◌≡◌, length, List, ℕ, None, Some, On
 ghost use Rattle.std.specs.Io.KnownBytes.{Appends, Keeps};
 ghost use Rattle.lapd_capture.specs.Packet.{IsWithin};
 ghost use Rattle.lapd_capture.specs.Reader.{reading_of, unread};
-ghost use Rattle.lapd_cli_decode.specs.Captured.{CaptureCloses, CaptureEnds, IsOtherStop, ItemsEnd, StepsFrom, after_found, after_item, begins_at, found_text, is_user, item_text, named_sender, place_of, sender_in, with_sender};
+ghost use Rattle.lapd_cli_decode.specs.Captured.{CaptureCloses, CaptureEnds, IsOtherStop, ItemsEnd, StepsFrom, after_found, after_item, begins_at, begins_in, found_text, is_user, item_text, named_sender, place_of, sender_in, with_sender};
 ghost use Rattle.lapd_cli_decode.specs.Frames.{after_missing, missing_text};
 
 use crate::frame_printer::{Follow, FramePrinter, Origin};
@@ -14,6 +14,7 @@ use lapd_capture::{CaptureFault, CaptureItem, CaptureReader, PacketFault, ReadFa
 use lapd_cli_render::Packet;
 use lapd_cli_script::{LineFault, ScriptFault};
 use lapd_frame::Side;
+use lapd_zone::Zone;
 use std::alloc::Global;
 use std::io::{ErrorKind, Read, Write};
 use thiserror::Error;
@@ -68,8 +69,9 @@ pub struct Seen {
 /// Prints the requested frames of a capture from its current place. Reading stops at the end of the
 /// capture, or after as many printed frames as were requested. The writer is flushed before each
 /// read that may wait. If `keeps_going` is set, an unreadable packet is reported on the error
-/// writer and skipped. If a capture does not name a sender, and
-/// `how` neither, this is reported there once. Failures of the error writer are ignored.
+/// writer and skipped. Datagrams to the port of GSMTAP that are not GSMTAP are skipped, and counted
+/// there at the end. If a capture does not name a sender, and `how` neither, this is reported there
+/// once. Failures of the error writer are ignored.
 ///
 /// # Errors
 ///
@@ -86,7 +88,7 @@ pub fn decode_capture<R: Read, W: Write, E: Write>(
         → CaptureEnds how (begins_at how None (reading_of capture.old left)) result
         (W.contents out.old) (W.contents out.new) }
 {
-    print_capture(alloc, capture, out, errors, how, None)
+    decode_capture_in(alloc, Zone::utc(alloc), capture, out, errors, how, None)
 }
 
 /// Like [`decode_capture`], but follows the link of each frame, printed or not: the remarks on a
@@ -108,12 +110,27 @@ pub fn follow_capture<R: Read, W: Write, E: Write>(
         → CaptureEnds how (begins_at how (Some follow) (reading_of capture.old left)) result
         (W.contents out.old) (W.contents out.new) }
 {
-    print_capture(alloc, capture, out, errors, how, Some(follow))
+    decode_capture_in(
+        alloc,
+        Zone::utc(alloc),
+        capture,
+        out,
+        errors,
+        how,
+        Some(follow),
+    )
 }
 
-/// Prints the requested frames of a capture from its current place, and then the tables.
-fn print_capture<R: Read, W: Write, E: Write>(
+/// Like [`decode_capture`], or like [`follow_capture`] if links are followed, with dates in this
+/// zone.
+///
+/// # Errors
+///
+/// `Capture` and `Packet` at a fault, with the requested frames before it printed; `Input` if a
+/// read fails; `Device` if a write fails; `Memory` if an allocation fails.
+pub fn decode_capture_in<R: Read, W: Write, E: Write>(
     alloc: Global,
+    zone: Zone,
     capture: &mut CaptureReader<R>,
     out: &mut W,
     errors: &mut E,
@@ -121,11 +138,16 @@ fn print_capture<R: Read, W: Write, E: Write>(
     follow: Option<Follow>,
 ) -> Result<Seen, CaptureStop>
     ensures { (left : List ℕ) → unread R.remaining capture.old ≡ Some left
-        → CaptureEnds how (begins_at how follow (reading_of capture.old left)) result
+        → CaptureEnds how (begins_in zone how follow (reading_of capture.old left)) result
         (W.contents out.old) (W.contents out.new) }
 {
-    match FramePrinter::new(alloc, Origin::Capture, how.frames, follow) {
-        Ok(mut printer) => print_to_end(capture, &mut printer, out, errors, how),
+    match FramePrinter::new(alloc, Origin::Capture, how.frames, follow, zone) {
+        Ok(mut printer) => {
+            let ended = print_to_end(capture, &mut printer, out, errors, how);
+            note_strangers(&printer, errors);
+            note_misfit(&printer, how.sender, errors);
+            ended
+        }
         Err(_) => Err(CaptureStop::Memory),
     }
 }
@@ -235,6 +257,10 @@ fn print_item<R: Read, W: Write, E: Write>(
     match capture.next() {
         Ok(CaptureItem::End) => Ok(true),
         Ok(CaptureItem::Other) => Ok(false),
+        Ok(CaptureItem::NotGsmtap) => {
+            printer.see_stranger();
+            Ok(false)
+        }
         Ok(CaptureItem::Frame(frame)) => {
             print_frame(capture, printer, frame, out, errors, how)?;
             Ok(false)
@@ -316,6 +342,7 @@ fn print_found<R: Read, W: Write, E: Write>(
     let named = named_sender(sender_in(printer.has_user(), frame), how.sender);
     note_unnamed(printer, named, errors);
     let from = named_or_by_kind(named, octets);
+    see_choice(printer, frame, how.sender, octets);
     let packet = Packet {
         number: capture.packets(),
         moment: capture.moment(),
@@ -337,12 +364,50 @@ fn note_hidden<E: Write>(printer: &FramePrinter, packet: u64, total: u64, errors
     }
 }
 
+/// Reports how many datagrams to the port of GSMTAP were not GSMTAP, if any. A failure of the error
+/// writer is ignored.
+fn note_strangers<E: Write>(printer: &FramePrinter, errors: &mut E) {
+    let _ = match printer.strangers() {
+        0 => Ok(()),
+        1 => writeln!(errors, "skipped 1 datagram to port 4729 that is not GSMTAP"),
+        count => writeln!(
+            errors,
+            "skipped {count} datagrams to port 4729 that are not GSMTAP"
+        ),
+    };
+}
+
+/// Reports that the chosen sender does not fit any command or response, if so. A failure of the
+/// error writer is ignored.
+pub(crate) fn note_misfit<E: Write>(printer: &FramePrinter, chosen: Option<Side>, errors: &mut E) {
+    let (name, other) = match chosen {
+        None => return,
+        Some(Side::User) => ("user", "net"),
+        Some(Side::Network) => ("net", "user"),
+    };
+    if printer.is_misfit() {
+        let _ = writeln!(
+            errors,
+            "no command or response fits --sender {name}; try --sender {other}"
+        );
+    }
+}
+
 /// Remembers whether the capture names the user side as a sender.
 fn see_sender(printer: &mut FramePrinter, frame: Span)
     ensures { printer.new ≡ with_sender frame printer.old }
 {
     if is_user(frame.from) {
         printer.see_user();
+    }
+}
+
+/// Counts whether octets fit the chosen sender, if the capture names none.
+fn see_choice(printer: &mut FramePrinter, frame: Span, chosen: Option<Side>, octets: &[u8])
+    ensures { printer.new ≡ printer.old }
+{
+    if sender_in(printer.has_user(), frame).is_none() {
+        printer.see_choice(chosen, octets);
     }
 }
 

@@ -10,6 +10,7 @@ ghost use Rattle.lapd_cli_decode.specs.declared.style.Style.TheVariants.{Plain};
 
 use crate::remarked::put_frame;
 use crate::style::Style;
+use lapd_cli_ladder::said_beside;
 use lapd_cli_script::{LineFault, put_line};
 use lapd_follow::Remarks;
 use lapd_frame::Side;
@@ -25,6 +26,7 @@ const END: &str = "\x1b[0m";
 /// # Errors
 ///
 /// `Memory` if an allocation fails, before anything is printed; `Device` if the writer fails.
+#[tactic(auto, using(crate::proofs::Colored::named_beside, crate::proofs::Colored::brief_beside))]
 pub(crate) fn put_colored<W: Write>(
     alloc: Global,
     is_colored: bool,
@@ -43,47 +45,49 @@ pub(crate) fn put_colored<W: Write>(
     if !is_colored {
         return put_frame(alloc, style, text, is_followed, said, out);
     }
+    let color = color_of(from, is_followed, said);
     match style {
-        Style::Plain | Style::Named | Style::Brief => {
-            put_in_color(alloc, from, text.as_str(), is_followed, said, out)
+        Style::Plain => put_in_color(alloc, color, text.as_str(), is_followed, said, out),
+        Style::Named | Style::Brief => {
+            let said = said_beside(true, said);
+            put_in_color(alloc, color, text.as_str(), is_followed, &said, out)
         }
         Style::Json | Style::NamedJson => put_frame(alloc, style, text, is_followed, said, out),
     }
 }
 
-/// Prints a line in color.
+/// Prints a line in this color.
 fn put_in_color<W: Write>(
     alloc: Global,
-    from: Option<Side>,
+    color: &str,
     text: &str,
     is_followed: bool,
     said: &Remarks,
     out: &mut W,
 ) -> Result<(), LineFault>
-    ensures { RemarkedEnds (text_line (color_of from (said_if is_followed said.now)
+    ensures { RemarkedEnds (text_line (color.now
         ++ (remarked Plain (said_if is_followed said.now) text.now ++ color_end))) result
         (W.contents out.old) (W.contents out.new) }
 {
-    let Ok(line) = line_in_color(alloc, from, text, is_followed, said) else {
+    let Ok(line) = line_in_color(alloc, color, text, is_followed, said) else {
         return Err(LineFault::Memory);
     };
     put_line(line.as_bytes(), &[], out)
 }
 
-/// The line in color.
+/// The line in this color.
 fn line_in_color(
     alloc: Global,
-    from: Option<Side>,
+    color: &str,
     text: &str,
     is_followed: bool,
     said: &Remarks,
 ) -> Result<String, AllocError>
     ensures { IfOk result (λ line. string_bytes line
-        ≡ color_of from (said_if is_followed said.now)
-        ++ (remarked Plain (said_if is_followed said.now) text.now ++ color_end)) }
+        ≡ color.now ++ (remarked Plain (said_if is_followed said.now) text.now ++ color_end)) }
 {
     let mut line = String::new(alloc);
-    line.push_str(color_of(from, is_followed, said))?;
+    line.push_str(color)?;
     push_remarked(&mut line, text, is_followed, said)?;
     line.push_str(END)?;
     Ok(line)

@@ -2,7 +2,7 @@
 
 ghost use Rattle.std.specs.Prelude.{◌≡◌, nat_lt, true, IfOk, OnOk};
 ghost use Rattle.std.specs.String.{string_bytes};
-ghost use Rattle.lapd_cli_decode.specs.Frames.{ClosingEnds, PrintEnds, after_frame, after_missing, after_shown, anew, bare_text, closing_text, followed_packet, frame_text, heard_by, is_complete, is_violated_by, line_packet, line_with, listening_by, missing_text, new_printing, said_by, said_if, sent_text, shown_packet, tables_of, text_by, text_with};
+ghost use Rattle.lapd_cli_decode.specs.Frames.{ClosingEnds, PrintEnds, after_frame, after_missing, after_shown, anew, bare_text, closing_text, followed_packet, frame_text, heard_by, in_zone, is_complete, is_violated_by, line_packet, line_with, listening_by, missing_text, new_printing, said_by, said_if, sent_text, shown_packet, tables_of, text_by, text_with};
 
 use crate::any_sapi::has_other_sapi;
 use crate::color::put_colored;
@@ -10,6 +10,7 @@ use crate::drawn::{drawn_frame, put_text};
 use crate::frame_style::{Drawing, FrameStyle, Layout};
 use crate::frame_time::either;
 use crate::missing::{Missing, put_missing};
+use crate::senders::sender_by_kind;
 use crate::shown_text::{write_other, write_unsent};
 use crate::style::Style;
 use crate::tables::put_tables;
@@ -17,6 +18,7 @@ use lapd_cli_render::Packet;
 use lapd_cli_script::{LineFault, ScriptFault};
 use lapd_follow::{Listener, Remarks};
 use lapd_frame::Side;
+use lapd_zone::Zone;
 use std::alloc::{AllocError, Global};
 use std::io::Write;
 use std::marker::Model;
@@ -44,10 +46,17 @@ pub(crate) struct FramePrinter {
     alloc: Global,
     origin: Origin,
     how: FrameStyle,
+    /// The zone of dates.
+    zone: Zone,
     frames: u64,
     has_user: bool,
     /// Whether it was reported that a capture does not name a sender.
     is_noted: bool,
+    /// How many datagrams to the port of GSMTAP were not GSMTAP.
+    strangers: u64,
+    /// How many frames have a kind and a C/R bit that fit the chosen sender, and that do not.
+    fits: u64,
+    misfits: u64,
     printed: u64,
     first: Option<u64>,
     last: Option<u64>,
@@ -65,6 +74,7 @@ impl Model for FramePrinter {
     ghost view = { λ p. record {
       origin = p.origin;
       how = p.how;
+      zone = p.zone;
       frames = p.frames;
       has_user = p.has_user;
       printed = p.printed;
@@ -76,7 +86,7 @@ impl Model for FramePrinter {
 }
 
 impl FramePrinter {
-    /// A printer before the first frame.
+    /// A printer before the first frame, with dates in this zone.
     ///
     /// # Errors
     ///
@@ -86,17 +96,23 @@ impl FramePrinter {
         origin: Origin,
         how: FrameStyle,
         follow: Option<Follow>,
+        zone: Zone,
     ) -> Result<FramePrinter, AllocError>
-        ensures { IfOk result (λ printer. printer ≡ new_printing origin how follow) }
+        ensures { IfOk result (λ printer. printer
+            ≡ in_zone zone (new_printing origin how follow)) }
     {
         let listener = listener_by(alloc, follow)?;
         Ok(FramePrinter {
             alloc,
             origin,
             how,
+            zone,
             frames: 0,
             has_user: false,
             is_noted: false,
+            strangers: 0,
+            fits: 0,
+            misfits: 0,
             printed: 0,
             first: None,
             last: None,
@@ -104,6 +120,22 @@ impl FramePrinter {
             listener,
             text: String::new(alloc),
         })
+    }
+
+    /// The same with dates in UTC.
+    ///
+    /// # Errors
+    ///
+    /// `AllocError` if links are followed and an allocation fails.
+    pub(crate) fn in_utc(
+        alloc: Global,
+        origin: Origin,
+        how: FrameStyle,
+        follow: Option<Follow>,
+    ) -> Result<FramePrinter, AllocError>
+        ensures { IfOk result (λ printer. printer ≡ new_printing origin how follow) }
+    {
+        FramePrinter::new(alloc, origin, how, follow, Zone::utc(alloc))
     }
 
     /// Whether there was a frame.
@@ -120,13 +152,13 @@ impl FramePrinter {
         self.how.ends_after(self.printed)
     }
 
-    /// The packet of the next line of a script.
-    pub(crate) fn line_packet(&self) -> Packet
-        ensures { result ≡ line_packet self.now }
+    /// The packet of the next line of a script, at this moment in microseconds since 1970.
+    pub(crate) fn line_packet(&self, moment: Option<u64>) -> Packet
+        ensures { result ≡ line_packet moment self.now }
     {
         Packet {
             number: self.frames.saturating_add(1),
-            moment: None,
+            moment,
             is_cut: false,
         }
     }
@@ -152,6 +184,38 @@ impl FramePrinter {
         let is_first = !self.is_noted;
         self.is_noted = true;
         is_first
+    }
+
+    /// Counts whether the kind and C/R bit of octets fit a sender that an option chose.
+    pub(crate) fn see_choice(&mut self, from: Option<Side>, octets: &[u8])
+        ensures { self.new ≡ self.old }
+    {
+        let by_kind = sender_by_kind(octets);
+        if by_kind.is_none() || from.is_none() {
+            return;
+        }
+        if by_kind == from {
+            self.fits = self.fits.saturating_add(1);
+        } else {
+            self.misfits = self.misfits.saturating_add(1);
+        }
+    }
+
+    /// Whether no kind and C/R bit of octets fits the chosen sender, and one does not.
+    pub(crate) fn is_misfit(&self) -> bool {
+        self.fits == 0 && self.misfits > 0
+    }
+
+    /// Counts a datagram to the port of GSMTAP that is not GSMTAP.
+    pub(crate) fn see_stranger(&mut self)
+        ensures { self.new ≡ self.old }
+    {
+        self.strangers = self.strangers.saturating_add(1);
+    }
+
+    /// How many datagrams to the port of GSMTAP were not GSMTAP.
+    pub(crate) fn strangers(&self) -> u64 {
+        self.strangers
     }
 
     /// Whether the layout has no place for the number of missing frames, if there are `total` of
@@ -262,7 +326,10 @@ impl FramePrinter {
             from octets.now self.old) (after_shown packet.moment self.old) result self.new
             (W.contents out.old) (W.contents out.new) }
     {
-        let time = self.how.time.of(self.first, self.last, packet.moment);
+        let time = self
+            .how
+            .time
+            .of(&self.zone, self.first, self.last, packet.moment);
         let Ok(text) = drawn_frame(
             self.alloc,
             drawing,
@@ -318,7 +385,10 @@ impl FramePrinter {
         ) else {
             return Err(LineFault::Memory);
         };
-        let time = self.how.time.of(self.first, self.last, packet.moment);
+        let time = self
+            .how
+            .time
+            .of(&self.zone, self.first, self.last, packet.moment);
         let Ok(()) = self
             .how
             .time

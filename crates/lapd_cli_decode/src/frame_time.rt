@@ -2,10 +2,11 @@
 
 ghost use Rattle.std.specs.Prelude.{◌≡◌, ◌++◌, Some, IfOk, OnOk};
 ghost use Rattle.std.specs.String.{string_bytes};
-ghost use Rattle.lapd_cli_decode.specs.Time.{day_digits, day_text, either, front_text, known_text, since, time_of, time_text, time_width, two_digits};
+ghost use Rattle.lapd_cli_decode.specs.Time.{date_digits, date_text, day_digits, day_text, either, front_text, known_text, since, time_of, time_text, time_width, two_digits, zone_time};
 
 use crate::style::Style;
 use lapd_follow::Seconds;
+use lapd_zone::{Date, Zone, date_of};
 use std::alloc::{AllocError, Global};
 use std::fmt;
 
@@ -22,24 +23,30 @@ pub enum FrameTime {
     Delta,
     /// The time of day, of the time zone UTC.
     Day,
+    /// The date and the time of day, of a time zone that is named besides. A moment before 1980 has
+    /// no year, and one before 1972 no date: logs have such times.
+    Date,
 }
 
 impl FrameTime {
     /// The time of a frame that was captured at this moment, in microseconds. `first` and `last`
-    /// are the moments of the first and the last frame that was printed.
+    /// are the moments of the first and the last frame that was printed, and a date is that of the
+    /// zone.
     pub(crate) fn of(
         self,
+        zone: &Zone,
         first: Option<u64>,
         last: Option<u64>,
         moment: Option<u64>,
     ) -> Option<u64>
-        ensures { result ≡ time_of self first last moment }
+        ensures { result ≡ time_of self zone.now first last moment }
     {
         match self {
             FrameTime::Hidden => None,
             FrameTime::Absolute | FrameTime::Day => moment,
             FrameTime::Relative => since(first, moment),
             FrameTime::Delta => since(last, moment),
+            FrameTime::Date => zone_time(zone, moment),
         }
     }
 
@@ -75,6 +82,7 @@ impl FrameTime {
             FrameTime::Absolute => 18,
             FrameTime::Relative | FrameTime::Delta => 13,
             FrameTime::Day => 16,
+            FrameTime::Date => 27,
         }
     }
 
@@ -92,6 +100,7 @@ impl FrameTime {
                 known_text(alloc, time)
             }
             FrameTime::Day => day_text(alloc, time),
+            FrameTime::Date => date_text(alloc, time),
         }
     }
 
@@ -107,7 +116,11 @@ impl FrameTime {
     {
         match self {
             FrameTime::Hidden => Ok(()),
-            FrameTime::Absolute | FrameTime::Relative | FrameTime::Delta | FrameTime::Day => {
+            FrameTime::Absolute
+            | FrameTime::Relative
+            | FrameTime::Delta
+            | FrameTime::Day
+            | FrameTime::Date => {
                 let mut text = self.words(alloc, time)?;
                 text.push_str(line.as_str())?;
                 *line = text;
@@ -135,6 +148,16 @@ fn since(earlier: Option<u64>, moment: Option<u64>) -> Option<u64>
         (_, None) => None,
         (None, Some(_)) => Some(0),
         (Some(earlier), Some(moment)) => Some(moment.saturating_sub(earlier)),
+    }
+}
+
+/// The time that a clock in the zone shows at a moment.
+fn zone_time(zone: &Zone, moment: Option<u64>) -> Option<u64>
+    ensures { result ≡ zone_time zone.now moment }
+{
+    match moment {
+        None => None,
+        Some(moment) => Some(zone.local(moment)),
     }
 }
 
@@ -168,6 +191,53 @@ fn day_text(alloc: Global, time: Option<u64>) -> Result<String, AllocError>
         Some(time) => {
             let day = TimeOfDay { time };
             format!(in alloc; "{day} ")
+        }
+    }
+}
+
+/// A date, a time of day and a space; `-` if they are not known.
+fn date_text(alloc: Global, time: Option<u64>) -> Result<String, AllocError>
+    ensures { IfOk result (λ text. string_bytes text ≡ date_text time) }
+{
+    match time {
+        None => {
+            let mut text = String::new(alloc);
+            text.push_str("- ")?;
+            Ok(text)
+        }
+        Some(time) => {
+            let date = ShownDate {
+                date: date_of(time / 86_400_000_000),
+            };
+            let day = TimeOfDay { time };
+            format!(in alloc; "{date}{day} ")
+        }
+    }
+}
+
+/// A date and a space, such as `2026-11-30 `; without its year before 1980, and nothing before 1972.
+#[derive(Clone, Copy)]
+struct ShownDate {
+    date: Date,
+}
+
+impl fmt::Display for ShownDate {
+    ghost output = { λ shown. Some (date_digits shown.date) };
+
+    fn fmt<W: fmt::Write>(&self, f: &mut fmt::Formatter<W>) -> fmt::Result {
+        let year = self.date.year;
+        let month = TwoDigits {
+            number: self.date.month,
+        };
+        let day = TwoDigits {
+            number: self.date.day,
+        };
+        if year < 1972 {
+            write!(f, "")
+        } else if year < 1980 {
+            write!(f, "{month}-{day} ")
+        } else {
+            write!(f, "{year}-{month}-{day} ")
         }
     }
 }

@@ -31,9 +31,9 @@ pub fn both_read_alike()
 /// Octets that name no sender are drawn with the same words, and the same ends beside them,
 /// whichever side reads them.
 pub fn both_draw_alike()
-    ensures words { (octets : List ℕ) → sender_by_kind octets ≡ None
-        → frame_words None octets (frame_at User octets)
-        ≡ frame_words None octets (frame_at Network octets) }
+    ensures words { (names : Bool) (octets : List ℕ) → sender_by_kind octets ≡ None
+        → frame_words names None octets (frame_at User octets)
+        ≡ frame_words names None octets (frame_at Network octets) }
     ensures ends { (side : Side) (octets : List ℕ) (listening : Option Listening)
         → sender_by_kind octets ≡ None
         → known_words side (frame_at User octets) listening

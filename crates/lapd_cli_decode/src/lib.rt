@@ -40,8 +40,11 @@ mod shown_object;
 mod shown_text;
 mod style;
 mod tables;
+mod timed;
 
-pub use capture_lines::{CaptureStop, CaptureStyle, Seen, decode_capture, follow_capture};
+pub use capture_lines::{
+    CaptureStop, CaptureStyle, Seen, decode_capture, decode_capture_in, follow_capture,
+};
 pub use frame_printer::Follow;
 pub use frame_style::{Drawing, FrameStyle, Layout};
 pub use frame_time::FrameTime;
@@ -51,6 +54,7 @@ pub use lapd_cli_ladder::{PICTURE_BEGIN, PICTURE_END};
 pub use lapd_cli_page::{PAGE_BEGIN, PAGE_END};
 pub use lapd_cli_values::Filter;
 pub use lapd_frame::Side;
+pub use lapd_zone::Zone;
 pub use laws::{both_read_alike, sender_is_found};
 pub use line_decoder::{decode, decode_good_lines, decode_lines};
 pub use line_form::LineForm;

@@ -19,6 +19,9 @@ pub enum LineForm {
     /// after `<`, and sent those without a sender. Else their sender is taken from their kind and
     /// C/R bit, and after `>` and `<` also from the lines before.
     Loose(Option<Side>),
+    /// The same lines, some with their time in front, as `@`, the microseconds since 1970 and a
+    /// space. A line without it has the time of the line before.
+    Timed(Option<Side>),
 }
 
 /// Reads a strict line: returns the sender, and puts the octets into `octets`, which it clears

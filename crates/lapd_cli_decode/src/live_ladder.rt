@@ -57,7 +57,7 @@ impl<W: Write> FrameDrawer<W> {
         ensures writer { IfOk result (λ drawer. drawer.out ≡ out) }
     {
         let follow = Some(Follow { k: None });
-        let printer = FramePrinter::new(alloc, Origin::Capture, LADDER, follow)?;
+        let printer = FramePrinter::in_utc(alloc, Origin::Capture, LADDER, follow)?;
         Ok(FrameDrawer {
             alloc,
             printer,
@@ -98,7 +98,7 @@ impl<W: Write> FrameDrawer<W> {
     {
         let packet = Packet {
             moment: Some(moment.saturating_mul(1000)),
-            ..self.printer.line_packet()
+            ..self.printer.line_packet(None)
         };
         let mut rung = Vec::new(self.alloc);
         match self.printer.print(packet, Some(from), octets, &mut rung) {

@@ -5,12 +5,14 @@ ghost use Rattle.lapd_cli_script.specs.Script.{lines_of};
 ghost use Rattle.lapd_cli_decode.specs.PrintedLines.{LinesEnd, before_lines};
 ghost use Rattle.lapd_cli_decode.specs.LinesPrinter.{printing_of};
 
+use crate::capture_lines::note_misfit;
 use crate::frame_printer::{Follow, FramePrinter, Origin};
 use crate::frame_style::FrameStyle;
 use crate::line_decoder::report;
 use crate::line_form::{LineForm, strict_line};
 use crate::line_sender::LineSender;
 use crate::loose::{Sent, loose_line};
+use crate::timed::timed_line;
 use lapd_cli_script::{Command, LineFault, ScriptFault, walk};
 use lapd_frame::Side;
 use std::alloc::Global;
@@ -43,6 +45,8 @@ struct PrintedLines<E> {
     keeps_going: bool,
     /// The side that printed the loose lines, as far as those so far show it.
     shown: Option<Side>,
+    /// The time of the last line that had one, in microseconds since 1970.
+    time: Option<u64>,
     /// How many loose lines had no octets and were not reported.
     skipped: u64,
     printer: FramePrinter,
@@ -52,7 +56,7 @@ struct PrintedLines<E> {
 
 /// Like [`crate::decode_lines`], but prints only the requested frames, and may follow the link of
 /// each frame, printed or not: the remarks on a frame are printed behind it, and after the last
-/// line a table of each link. Returns whether a remark was a violation. If `keeps_going` is set,
+/// line a table of each link. Dates are in UTC. Returns whether a remark was a violation. If `keeps_going` is set,
 /// each line that does not have this form is reported on the error writer and skipped. Else loose
 /// lines without octets are skipped too, and how many there were is reported at the end. Failures
 /// of the error writer are ignored. Lines after the last requested frame are skipped.
@@ -72,13 +76,14 @@ pub fn print_lines<R: Read, W: Write, E: Write + Drop>(
     ensures { IfSome (R.remaining script.old) (λ octets. LinesEnd (before_lines how) result
         (lines_of octets) (W.contents out.old) (W.contents out.new)) }
 {
-    match FramePrinter::new(alloc, Origin::Script, how.frames, how.follow) {
+    match FramePrinter::in_utc(alloc, Origin::Script, how.frames, how.follow) {
         Ok(printer) => {
             let mut lines = PrintedLines {
                 alloc,
                 form: how.form,
                 keeps_going: how.keeps_going,
                 shown: None,
+                time: None,
                 skipped: 0,
                 printer,
                 octets: Vec::new(alloc),
@@ -86,9 +91,18 @@ pub fn print_lines<R: Read, W: Write, E: Write + Drop>(
             };
             let ended = print_to_end(alloc, &mut lines, script, out);
             lines.report_skipped();
+            note_misfit(&lines.printer, chosen_in(how.form), &mut lines.errors);
             ended
         }
         Err(_) => Err(ScriptFault::Memory),
+    }
+}
+
+/// The side that an option chose as the printer of the lines.
+fn chosen_in(form: LineForm) -> Option<Side> {
+    match form {
+        LineForm::Strict => None,
+        LineForm::Loose(chosen) | LineForm::Timed(chosen) => chosen,
     }
 }
 
@@ -112,7 +126,8 @@ impl<E: Write> PrintedLines<E> {
     ghost use Rattle.lapd_cli_script.specs.Script.{LineEndsAs};
     ghost use Rattle.lapd_cli_decode.specs.Lines.{sent_in};
     ghost use Rattle.lapd_cli_decode.specs.Loose.{loose_line};
-    ghost use Rattle.lapd_cli_decode.specs.PrintedLines.{loose_outcome, loose_step, or_skipped, print_step, sender_outcome, sent_outcome, step_by};
+    ghost use Rattle.lapd_cli_decode.specs.PrintedLines.{loose_outcome, loose_step, or_skipped, print_step, sender_outcome, sent_outcome, step_by, timed_step};
+    ghost use Rattle.lapd_cli_decode.specs.Timed.{timed_line};
 
     /// Prints the frame of a line, or skips it.
     fn print_line<W: Write>(&mut self, line: &[u8], out: &mut W) -> Result<(), LineFault>
@@ -136,6 +151,7 @@ impl<E: Write> PrintedLines<E> {
         match self.form {
             LineForm::Strict => self.print_strict(line, out),
             LineForm::Loose(chosen) => self.print_loose(chosen, line, out),
+            LineForm::Timed(chosen) => self.print_timed(chosen, line, out),
         }
     }
 
@@ -175,7 +191,7 @@ impl<E: Write> PrintedLines<E> {
             (sent_outcome (printing_of self.old) (Some (from, self.old.octets.items)))
             result self.new (W.contents out.old) (W.contents out.new) }
     {
-        let packet = self.printer.line_packet();
+        let packet = self.printer.line_packet(self.time);
         self.printer
             .print(packet, Some(from), self.octets.as_slice(), out)
     }
@@ -201,6 +217,26 @@ impl<E: Write> PrintedLines<E> {
             }
             Err(LineFault::Memory) => Err(LineFault::Memory),
             Err(LineFault::Device) => Err(LineFault::Device),
+        }
+    }
+
+    /// Prints the frame of a loose line that may have its time in front, or skips it.
+    fn print_timed<W: Write>(
+        &mut self,
+        chosen: Option<Side>,
+        line: &[u8],
+        out: &mut W,
+    ) -> Result<(), LineFault>
+        ensures { LineEndsAs (λ lines state. state ≡ printing_of lines)
+            (timed_step chosen (printing_of self.old) line.now (timed_line line.now)) result
+            self.new (W.contents out.old) (W.contents out.new) }
+    {
+        match timed_line(line) {
+            None => self.print_loose(chosen, line, out),
+            Some((time, text)) => {
+                self.time = Some(time);
+                self.print_loose(chosen, text, out)
+            }
         }
     }
 
@@ -239,7 +275,10 @@ impl<E: Write> PrintedLines<E> {
         let from = sender.side(chosen, self.shown, octets);
         self.note_unnamed(chosen.is_none() && !matches!(sender, LineSender::Named(_)));
         self.shown = sender.printer(self.shown, octets);
-        let packet = self.printer.line_packet();
+        if chosen.is_some() && !matches!(sender, LineSender::Named(_)) {
+            self.printer.see_choice(from, octets);
+        }
+        let packet = self.printer.line_packet(self.time);
         self.printer.print(packet, from, octets, out)
     }
 

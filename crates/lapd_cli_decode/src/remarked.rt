@@ -9,6 +9,7 @@ ghost use Rattle.lapd_cli_decode.specs.Remarked.{listed, object_or_none, remark_
 ghost use Rattle.lapd_follow.specs.Texts.{remarks_text};
 
 use crate::style::Style;
+use lapd_cli_ladder::said_beside;
 use lapd_cli_script::{LineFault, put_line};
 use lapd_follow::{Remark, Remarks};
 use std::alloc::{AllocError, Global};
@@ -75,7 +76,8 @@ fn put_remarked<W: Write>(
         (W.contents out.old) (W.contents out.new) }
 {
     match style {
-        Style::Plain | Style::Named | Style::Brief => put_trace(text, said, out),
+        Style::Plain => put_trace(text, said, out),
+        Style::Named | Style::Brief => put_trace(text, &said_beside(true, said), out),
         Style::Json | Style::NamedJson => put_object(alloc, text.as_bytes(), said, out),
     }
 }

@@ -3,7 +3,7 @@
 ghost use Rattle.std.specs.Prelude.{◌≡◌, ◌++◌, Some, IfOk, OnOk};
 ghost use Rattle.std.specs.Io.KnownBytes.{Appends, Keeps};
 ghost use Rattle.std.specs.String.{string_bytes};
-ghost use Rattle.lapd_cli_decode.specs.Tables.{TablesEnd, address_members, busy_member, busy_text, counts_line, counts_text, end_lines, end_object, first_members, from_to, head_line, kinds_line, last_members, link_lines, link_object, link_text, mean_of, messages_of, object_front, object_head, object_rest, place_text, range_member, range_text, tables_text, times_list, times_member, times_text};
+ghost use Rattle.lapd_cli_decode.specs.Tables.{TablesEnd, address_members, busy_member, busy_text, counts_line, counts_text, end_lines, end_object, count_member, count_text, first_members, followed_member, kind_members, message_members, followed_text, from_to, has_numbers, head_line, head_text, is_counted, is_unfollowed, kinds_line, last_members, link_lines, link_object, link_text, mean_of, messages_of, object_front, object_head, object_rest, place_text, range_member, range_text, tables_text, times_list, times_member, times_text, unfollowed_reason, unfollowed_text};
 
 use crate::style::Style;
 use lapd_cli_script::ScriptFault;
@@ -88,13 +88,64 @@ fn push_link_lines(text: &mut String, link: &LinkTally) -> Result<(), AllocError
 fn push_head_line(text: &mut String, link: &LinkTally) -> Result<(), AllocError>
     ensures { OnOk result (string_bytes text.new ≡ string_bytes text.old ++ head_line link.now) }
 {
+    push_head(text, link)?;
+    push_followed(text, link)?;
+    text.push_str("\n")
+}
+
+/// Appends the address of a link, and how many establishments began.
+fn push_head(text: &mut String, link: &LinkTally) -> Result<(), AllocError>
+    ensures { OnOk result (string_bytes text.new ≡ string_bytes text.old ++ head_text link.now) }
+{
     let sapi = link.sapi.value();
     let tei = link.tei.value();
     let establishments = link.establishments;
     write!(
         text,
-        "SAPI {sapi} TEI {tei}: establishments {establishments}\n"
+        "SAPI {sapi} TEI {tei}: establishments {establishments}"
     )
+}
+
+/// Appends from which packet a link is followed that was established before, or why it is not.
+fn push_followed(text: &mut String, link: &LinkTally) -> Result<(), AllocError>
+    ensures { OnOk result (string_bytes text.new
+        ≡ string_bytes text.old ++ followed_text link.now link.now.followed) }
+{
+    match link.followed {
+        Some(packet) => write!(text, ", followed from packet {packet}"),
+        None => {
+            if is_unfollowed(link) {
+                text.push_str(unfollowed_reason(link))
+            } else {
+                Ok(())
+            }
+        }
+    }
+}
+
+/// Whether no establishment of a link began, but an I or S frame was seen.
+fn is_unfollowed(link: &LinkTally) -> bool
+    ensures { result ≡ is_unfollowed link.now }
+{
+    link.establishments == 0 && (has_numbers(&link.user.kinds) || has_numbers(&link.network.kinds))
+}
+
+/// Whether an end sent an I or S frame.
+fn has_numbers(kinds: &Kinds) -> bool
+    ensures { result ≡ has_numbers kinds.now }
+{
+    kinds.i > 0 || kinds.rr > 0 || kinds.rnr > 0 || kinds.rej > 0
+}
+
+/// Why a link of which no establishment began is not followed.
+fn unfollowed_reason(link: &LinkTally) -> &'static str
+    ensures { result.now ≡ unfollowed_reason link.now }
+{
+    if link.user.kinds.sabme > 0 || link.network.kinds.sabme > 0 {
+        ", not followed: no UA answers a SABME"
+    } else {
+        ", not followed: no exchange shows the numbers"
+    }
 }
 
 /// Appends the lines of what an end sent.
@@ -136,6 +187,7 @@ fn push_counts_line(text: &mut String, direction: &str, tally: &Tally) -> Result
         ≡ string_bytes text.old ++ counts_line direction.now tally.now) }
 {
     push_counts(text, direction, tally)?;
+    push_unfollowed(text, tally.unfollowed)?;
     push_times(text, &tally.times)?;
     push_busy(text, tally.busy.total)?;
     text.push_str("\n")
@@ -146,14 +198,33 @@ fn push_counts(text: &mut String, direction: &str, tally: &Tally) -> Result<(), 
     ensures { OnOk result (string_bytes text.new
         ≡ string_bytes text.old ++ counts_text direction.now tally.now) }
 {
-    let messages = messages_of(tally);
+    let is_known = is_counted(tally);
+    let messages = Count {
+        is_known,
+        count: messages_of(tally),
+    };
     let octets = tally.octets;
-    let repeated = tally.repeated;
+    let repeated = Count {
+        is_known,
+        count: tally.repeated,
+    };
     let polls = tally.polls;
     write!(
         text,
         "  {direction} messages {messages}, octets {octets}, repeated {repeated}, polls {polls}"
     )
+}
+
+/// Appends how many I frames were not followed, if any.
+fn push_unfollowed(text: &mut String, unfollowed: u64) -> Result<(), AllocError>
+    ensures { OnOk result (string_bytes text.new
+        ≡ string_bytes text.old ++ unfollowed_text unfollowed) }
+{
+    if unfollowed > 0 {
+        write!(text, ", not followed {unfollowed}")
+    } else {
+        Ok(())
+    }
 }
 
 /// Appends the times of the answers, if there are any.
@@ -231,7 +302,13 @@ fn push_object_head(text: &mut String, link: &LinkTally) -> Result<(), AllocErro
     ensures { OnOk result (string_bytes text.new ≡ string_bytes text.old ++ object_head link.now) }
 {
     let establishments = link.establishments;
-    write!(text, "{{\"establishments\":{establishments},\"network\":")
+    let followed = Followed {
+        packet: link.followed,
+    };
+    write!(
+        text,
+        "{{\"establishments\":{establishments}{followed},\"network\":"
+    )
 }
 
 /// Appends the members after `network`, and the end of the object.
@@ -315,9 +392,15 @@ fn push_first_members(text: &mut String, tally: &Tally) -> Result<(), AllocError
     ensures { OnOk result (string_bytes text.new
         ≡ string_bytes text.old ++ first_members tally.now) }
 {
-    let messages = messages_of(tally);
-    let octets = tally.octets;
-    let polls = tally.polls;
+    push_kind_members(text, tally)?;
+    push_message_members(text, tally)
+}
+
+/// Appends the members from `disc` to `i`.
+fn push_kind_members(text: &mut String, tally: &Tally) -> Result<(), AllocError>
+    ensures { OnOk result (string_bytes text.new
+        ≡ string_bytes text.old ++ kind_members tally.now) }
+{
     let Kinds {
         i,
         disc,
@@ -327,8 +410,23 @@ fn push_first_members(text: &mut String, tally: &Tally) -> Result<(), AllocError
     } = tally.kinds;
     write!(
         text,
-        "\"disc\":{disc},\"dm\":{dm},\"frmr\":{frmr},\"i\":{i},\"messages\":{messages},\"octets\":{octets},\"polls\":{polls}"
+        "\"disc\":{disc},\"dm\":{dm},\"frmr\":{frmr},\"i\":{i}"
     )
+}
+
+/// Appends the members `messages`, `octets` and `polls`.
+fn push_message_members(text: &mut String, tally: &Tally) -> Result<(), AllocError>
+    ensures { OnOk result (string_bytes text.new
+        ≡ string_bytes text.old ++ message_members tally.now) }
+{
+    let messages = Member {
+        name: "messages",
+        is_known: is_counted(tally),
+        count: messages_of(tally),
+    };
+    let octets = tally.octets;
+    let polls = tally.polls;
+    write!(text, "{messages},\"octets\":{octets},\"polls\":{polls}")
 }
 
 /// Appends the members from `rej` to `xid`, and the end of the object.
@@ -336,7 +434,16 @@ fn push_last_members(text: &mut String, tally: &Tally) -> Result<(), AllocError>
     ensures { OnOk result (string_bytes text.new
         ≡ string_bytes text.old ++ last_members tally.now) }
 {
-    let repeated = tally.repeated;
+    let repeated = Member {
+        name: "repeated",
+        is_known: is_counted(tally),
+        count: tally.repeated,
+    };
+    let unfollowed = Member {
+        name: "unfollowed",
+        is_known: tally.unfollowed > 0,
+        count: tally.unfollowed,
+    };
     let Kinds {
         rr,
         rnr,
@@ -349,15 +456,26 @@ fn push_last_members(text: &mut String, tally: &Tally) -> Result<(), AllocError>
     } = tally.kinds;
     write!(
         text,
-        ",\"rej\":{rej},\"repeated\":{repeated},\"rnr\":{rnr},\"rr\":{rr},\"sabme\":{sabme},\"ua\":{ua},\"ui\":{ui},\"xid\":{xid}}}"
+        ",\"rej\":{rej}{repeated},\"rnr\":{rnr},\"rr\":{rr},\"sabme\":{sabme},\"ua\":{ua},\"ui\":{ui}{unfollowed},\"xid\":{xid}}}"
     )
 }
 
-/// The I frames that were not repetitions.
+/// Whether of some I frames is known if they are sent again, or there are none.
+fn is_counted(tally: &Tally) -> bool
+    ensures { result ≡ is_counted tally.now }
+{
+    tally.unfollowed < tally.kinds.i || tally.kinds.i == 0
+}
+
+/// The I frames that were followed and were not repetitions.
 fn messages_of(tally: &Tally) -> u64
     ensures { result ≡ messages_of tally.now }
 {
-    tally.kinds.i.saturating_sub(tally.repeated)
+    tally
+        .kinds
+        .i
+        .saturating_sub(tally.unfollowed)
+        .saturating_sub(tally.repeated)
 }
 
 /// The mean of the times, rounded down.
@@ -365,6 +483,65 @@ fn mean_of(times: &Times) -> u64
     ensures { result ≡ mean_of times.now }
 {
     times.total / times.count.max(1)
+}
+
+/// A count of the frames that were followed, or a hyphen.
+#[derive(Clone, Copy)]
+struct Count {
+    is_known: bool,
+    count: u64,
+}
+
+impl fmt::Display for Count {
+    ghost output = { λ shown. Some (count_text shown.is_known shown.count) };
+
+    fn fmt<W: fmt::Write>(&self, f: &mut fmt::Formatter<W>) -> fmt::Result {
+        if self.is_known {
+            let count = self.count;
+            write!(f, "{count}")
+        } else {
+            write!(f, "-")
+        }
+    }
+}
+
+/// A member of a count, or nothing if it is not known.
+#[derive(Clone, Copy)]
+struct Member {
+    name: &'static str,
+    is_known: bool,
+    count: u64,
+}
+
+impl fmt::Display for Member {
+    ghost output = { λ shown. Some (count_member shown.name.now shown.is_known shown.count) };
+
+    fn fmt<W: fmt::Write>(&self, f: &mut fmt::Formatter<W>) -> fmt::Result {
+        if self.is_known {
+            let name = self.name;
+            let count = self.count;
+            write!(f, ",\"{name}\":{count}")
+        } else {
+            Ok(())
+        }
+    }
+}
+
+/// The member of the packet from which a link is followed that was established before.
+#[derive(Clone, Copy)]
+struct Followed {
+    packet: Option<u64>,
+}
+
+impl fmt::Display for Followed {
+    ghost output = { λ shown. Some (followed_member shown.packet) };
+
+    fn fmt<W: fmt::Write>(&self, f: &mut fmt::Formatter<W>) -> fmt::Result {
+        match self.packet {
+            None => Ok(()),
+            Some(packet) => write!(f, ",\"followed\":{packet}"),
+        }
+    }
 }
 
 /// Two times, shown in seconds.

@@ -33,3 +33,5 @@ mod read;
 mod senders;
 #[cfg(test)]
 mod written;
+#[cfg(test)]
+mod zones;

@@ -86,12 +86,12 @@ pub fn made(rt: &HostRuntime, notes: &Notes<'_>, address: &str) -> io::Result<Tc
     Ok(stream)
 }
 
-/// Closes a connection, and notes before if the other side has closed it and everything it sent was
-/// read. The sending direction is ended first. Then what arrives is read and dropped until the other
-/// side has closed too, for a second at most: octets that were not read would make the system reset
-/// the connection, and the other side might lose the last frames.
-pub fn close(rt: &HostRuntime, notes: &Notes<'_>, stream: TcpStream) {
-    if is_closed(&stream) {
+/// Closes a connection. Unless a fault of it is reported, notes before if the other side has closed
+/// it and everything it sent was read. The sending direction is ended first. Then what arrives is
+/// read and dropped until the other side has closed too, for a second at most: octets that were not
+/// read would make the system reset the connection, and the other side might lose the last frames.
+pub fn close(rt: &HostRuntime, notes: &Notes<'_>, stream: TcpStream, is_reported: bool) {
+    if !is_reported && is_closed(&stream) {
         notes.print(port_reason(PortFault::End));
     }
     let _ = linger(rt, &stream);

@@ -73,6 +73,8 @@ pub struct Connections<'a> {
     taken: u32,
     /// Whether the only connection is closed and all frames that arrived over it were taken.
     is_closed: bool,
+    /// The number of lost connections that no wait has returned yet.
+    losses: u64,
 }
 
 impl<'a> Connections<'a> {
@@ -103,6 +105,7 @@ impl<'a> Connections<'a> {
             bus: None,
             taken: 0,
             is_closed: false,
+            losses: 0,
             poll,
         })
     }
@@ -154,7 +157,8 @@ impl<'a> Connections<'a> {
     }
 
     /// Notes that the other side has closed the only connection, if it has, everything it sent was
-    /// read, and this was not noted when it was seen.
+    /// read, and this was not noted when it was seen. For a side that no fault has ended: a fault is
+    /// reported by itself.
     pub fn print_closed(&self) {
         if self.next_connections.is_nowhere() && !self.is_closed && self.peers.is_closed() {
             self.notes.print(port_reason(PortFault::End));
@@ -258,6 +262,7 @@ impl<'a> Connections<'a> {
             (true, PortFault::End) => {
                 if !self.is_closed {
                     self.is_closed = true;
+                    self.add_loss();
                     self.notes.print(port_reason(PortFault::End));
                 }
                 Ok(())
@@ -277,10 +282,16 @@ impl<'a> Connections<'a> {
             bus.lose(lost.place);
         }
         if let Some(peer) = self.peers.remove(lost.place) {
+            self.add_loss();
             let now = self.clock.latest();
             self.next_connections
                 .lose(peer, lost.why, is_alone, now, self.notes);
         }
+    }
+
+    /// Records a lost connection, which ends a wait.
+    fn add_loss(&mut self) {
+        self.losses = self.losses.saturating_add(1);
     }
 
     /// Adds the further connections that exist, while there is room.
@@ -358,9 +369,9 @@ impl<'a> Connections<'a> {
     }
 
     /// Removes the connections that have been idle for too long at this moment, in milliseconds. A
-    /// poll must have reported what had arrived by then.
+    /// poll must have reported what had arrived by then. A closed connection is not idle.
     fn drop_idle(&mut self, now: u64) -> Result<(), PortFault> {
-        let Some(limit) = self.idle_limit else {
+        let (Some(limit), false) = (self.idle_limit, self.is_closed) else {
             return Ok(());
         };
         for _place in 0..self.peers.most() {
@@ -425,7 +436,8 @@ impl<'a> Connections<'a> {
     /// Whether there is already a reason to end a wait at this moment.
     fn is_awake(&self, lines: Lines, now: u64) -> bool {
         let has_work = self.peers.is_ready() || self.is_audit_ready(now);
-        self.has_line(lines) || has_work || self.is_closed
+        let is_lost = 0 < self.losses || self.is_closed;
+        self.has_line(lines) || has_work || is_lost
     }
 
     /// The reason to end a wait at this moment, if there is one.
@@ -433,6 +445,9 @@ impl<'a> Connections<'a> {
         if self.has_line(lines) {
             self.input.pass_on();
             Some(Woken::Line)
+        } else if 0 < self.losses {
+            self.losses -= 1;
+            Some(Woken::Lost)
         } else if self.peers.is_ready() || self.is_audit_ready(now) {
             Some(Woken::Arrival)
         } else if self.is_closed {
@@ -499,6 +514,9 @@ impl Outside for Connections<'_> {
     }
 
     fn send(&mut self, frame: &[u8]) -> Result<Sending, PortFault> {
+        if self.is_closed {
+            return Ok(Sending::Lost);
+        }
         self.record_sent(frame);
         if self.peers.send(frame) {
             return Ok(Sending::Sent);

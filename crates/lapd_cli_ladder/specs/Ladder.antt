@@ -12,7 +12,7 @@ use Rattle.lapd_cli_render.specs.Names.{names_text}
 use Rattle.lapd_cli_render.specs.declared.Packet.{Packet}
 use Rattle.lapd_cli_ladder.specs.declared.ladder.LadderStyle.{LadderStyle}
 use Rattle.lapd_cli_ladder.specs.Columns.{at_left, at_right, filled, shortened}
-use Rattle.lapd_cli_ladder.specs.Words.{frame_words, known_words, reading_of, remark_words}
+use Rattle.lapd_cli_ladder.specs.Words.{frame_words, known_words, reading_of, remark_words, said_beside}
 
 -- the words beside the line at the right, after a space
 abbrev pub beside : List ℕ → List ℕ
@@ -76,7 +76,8 @@ arrow_or_lost true from words = lost_arrow from words
 -- both ends
 abbrev pub arrival_line : Bool → Side → List ℕ → List ℕ → List ℕ → List ℕ
 arrival_line is_lost from octets user network = ladder_line 0 [] [] user
-    (arrow_or_lost is_lost from (frame_words (Some from) octets (reading_of (Some from) octets)))
+    (arrow_or_lost is_lost from
+    (frame_words false (Some from) octets (reading_of (Some from) octets)))
     network
 
 -- the line of octets, of this sender if it is known; beside it is what is known of both ends after
@@ -86,7 +87,7 @@ abbrev pub rung_line : LadderStyle → Packet → List ℕ → Option Side → L
 rung_line style packet time from octets listening = ladder_line style.time_width
     (decimal packet.number) time (known_words User (reading_of from octets) listening)
     (arrow (between_width style.time_width) from
-    (frame_words from octets (reading_of from octets)))
+    (frame_words style.names from octets (reading_of from octets)))
     (known_words Network (reading_of from octets) listening)
 
 -- ---- The notes on a frame, each in a line of its own.
@@ -121,13 +122,14 @@ abbrev pub each_remark : Remarks → List (Option Remark)
 each_remark r = r.establishment ∷ r.ns ∷ r.window ∷ r.busy ∷ r.nr ∷ r.bit ∷ r.answer
     ∷ r.identity ∷ r.conflict ∷ []
 
-abbrev pub remark_lines : ℕ → Option Remarks → List ℕ
-remark_lines width None = []
-remark_lines width (Some r) = flat_map (remark_line width) (each_remark r)
+abbrev pub remark_lines : LadderStyle → Option Remarks → List ℕ
+remark_lines style None = []
+remark_lines style (Some r) =
+    flat_map (remark_line style.time_width) (each_remark (said_beside style.names r))
 
 abbrev pub note_lines : LadderStyle → Packet → Option Side → List ℕ → Option Remarks → List ℕ
 note_lines style packet from octets said = cut_line style.time_width packet.is_cut
-    ++ (names_line style from octets ++ remark_lines style.time_width said)
+    ++ (names_line style from octets ++ remark_lines style said)
 
 -- all lines of octets, of this sender if it is known
 abbrev pub frame_lines : LadderStyle → Packet → List ℕ → Option Side → List ℕ → Option Remarks

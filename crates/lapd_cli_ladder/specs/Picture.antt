@@ -11,7 +11,7 @@ use Rattle.lapd_follow.specs.Texts.{remarks_text}
 use Rattle.lapd_cli_render.specs.Names.{names_text}
 use Rattle.lapd_cli_render.specs.declared.Packet.{Packet}
 use Rattle.lapd_cli_ladder.specs.Columns.{shortened}
-use Rattle.lapd_cli_ladder.specs.Words.{frame_words, known_words, reading_of}
+use Rattle.lapd_cli_ladder.specs.Words.{frame_words, known_words, reading_of, said_beside}
 
 -- ---- Words.
 
@@ -44,13 +44,13 @@ message_words names None octets = []
 message_words names (Some from) octets = if names then drop 1 (names_text from octets) else []
 
 -- the remarks, without the semicolon before the first
-abbrev pub said_words : Option Remarks → List ℕ
-said_words None = []
-said_words (Some said) = drop 2 (remarks_text said)
+abbrev pub said_words : Bool → Option Remarks → List ℕ
+said_words names None = []
+said_words names (Some said) = drop 2 (remarks_text (said_beside names said))
 
 abbrev pub note_words : Bool → Packet → Option Side → List ℕ → Option Remarks → List ℕ
 note_words names packet from octets said = joined (cut_words packet.is_cut)
-    (joined (message_words names from octets) (said_words said))
+    (joined (message_words names from octets) (said_words names said))
 
 -- ---- A frame: 25 on each page, 36 units apart.
 
@@ -98,9 +98,9 @@ ends_elements from octets listening =
     end_element User from octets listening ++ end_element Network from octets listening
 
 -- its words, above the arrow
-unfoldable pub label_element : Option Side → List ℕ → List ℕ
-label_element from octets = text_element (codes "x=\"560\" y=\"-5\" class=\"middle\"")
-    (shortened 66 (frame_words from octets (reading_of from octets)))
+unfoldable pub label_element : Bool → Option Side → List ℕ → List ℕ
+label_element names from octets = text_element (codes "x=\"560\" y=\"-5\" class=\"middle\"")
+    (shortened 66 (frame_words names from octets (reading_of from octets)))
 
 -- the attributes of the notes: those with a violation are red
 abbrev pub note_attributes : Option Remarks → List ℕ
@@ -121,7 +121,7 @@ abbrev pub frame_element : Bool → ℕ → Packet → List ℕ → Option Side 
     → Option Listening → List ℕ
 frame_element names place packet time from octets said listening =
     element_front place packet time from ++ (ends_elements from octets listening
-    ++ (label_element from octets ++ (notes_element names packet from octets said
+    ++ (label_element names from octets ++ (notes_element names packet from octets said
     ++ codes "</g></g>\n")))
 
 -- ---- A page.

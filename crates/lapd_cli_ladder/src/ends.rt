@@ -71,6 +71,9 @@ fn push_end(text: &mut String, side: Side, link: &LinkFollower) -> Result<(), Al
     if link.unanswered_command(side).is_some() {
         return text.push_str(command_words(link.is_establishing(side)));
     }
+    if link.is_released(side) {
+        return text.push_str("-");
+    }
     push_numbers(text, link.numbering(side))?;
     text.push_str(poll_words(link.unanswered_poll(side).is_some()))?;
     text.push_str(busy_words(link.busy(side)))

@@ -102,7 +102,7 @@ pub fn push_rung(
         ++ rung_line style packet time.now from octets.now listener.now) }
 {
     let frame = reading_of(from, octets);
-    let words = frame_words(alloc, from, octets, &frame)?;
+    let words = frame_words(alloc, style.names, from, octets, &frame)?;
     let user = known_words(alloc, Side::User, &frame, listener)?;
     let network = known_words(alloc, Side::Network, &frame, listener)?;
     let number = number_words(alloc, packet.number)?;
@@ -139,7 +139,7 @@ pub fn push_arrival(
         ++ arrival_line is_lost from octets.now user.now network.now) }
 {
     let frame = reading_of(Some(from), octets);
-    let words = frame_words(alloc, Some(from), octets, &frame)?;
+    let words = frame_words(alloc, false, Some(from), octets, &frame)?;
     let mut between = Vec::new(alloc);
     push_arrow_or_lost(alloc, &mut between, is_lost, from, words.as_bytes())?;
     push_line(text, 0, b"", b"", user, between.as_slice(), network)

@@ -26,4 +26,4 @@ pub use lapd_frame::Side;
 pub use notes::{push_note, push_notes};
 pub use parts::{name_of, nr_of, ns_of};
 pub use picture::{PICTURE_BEGIN, PICTURE_END, push_picture_part};
-pub use words::{known_role, push_control, reading_of};
+pub use words::{known_role, push_control, reading_of, said_beside};

@@ -9,6 +9,7 @@ ghost use Rattle.lapd_cli_ladder.specs.Words.{class_mark, remark_words};
 use crate::LadderStyle;
 use crate::columns::push_left;
 use crate::ladder::{between_width, push_line};
+use crate::words::said_beside;
 use lapd_cli_render::{Packet, push_names};
 use lapd_follow::{Class, Remark, Remarks};
 use lapd_frame::Side;
@@ -34,7 +35,7 @@ pub fn push_notes(
 {
     push_cut(alloc, text, style.time_width, packet.is_cut)?;
     push_message(alloc, text, style, from, octets)?;
-    push_remarks(alloc, text, style.time_width, said)
+    push_remarks(alloc, text, style, said)
 }
 
 /// Appends a line if the capture has only the first octets of a frame.
@@ -118,14 +119,17 @@ fn push_words(
 fn push_remarks(
     alloc: Global,
     text: &mut Vec<u8>,
-    width: usize,
+    style: LadderStyle,
     said: &Option<Remarks>,
 ) -> Result<(), AllocError>
-    ensures { OnOk result (text.new.items ≡ text.old.items ++ remark_lines width said.now) }
+    ensures { OnOk result (text.new.items ≡ text.old.items ++ remark_lines style said.now) }
 {
     match said {
         None => Ok(()),
-        Some(said) => push_remark_lines(alloc, text, width, &each_remark(said)),
+        Some(said) => {
+            let remarks = each_remark(&said_beside(style.names, said));
+            push_remark_lines(alloc, text, style.time_width, &remarks)
+        }
     }
 }
 

@@ -161,7 +161,7 @@ fn push_element(
 {
     push_element_front(alloc, text, place, packet, time, from)?;
     push_ends(alloc, text, from, octets, listener)?;
-    push_label(alloc, text, from, octets)?;
+    push_label(alloc, text, names, from, octets)?;
     push_element_notes(alloc, text, names, packet, from, octets, said)?;
     text.extend_from_slice(b"</g></g>\n")
 }
@@ -247,12 +247,17 @@ fn end_attributes(side: Side) -> &'static [u8]
 }
 
 /// The words above an arrow.
-fn label_words(alloc: Global, from: Option<Side>, octets: &[u8]) -> Result<Vec<u8>, AllocError>
+fn label_words(
+    alloc: Global,
+    names: bool,
+    from: Option<Side>,
+    octets: &[u8],
+) -> Result<Vec<u8>, AllocError>
     ensures { IfOk result (λ label. label.items
-        ≡ shortened 66 (frame_words from octets.now (reading_of from octets.now))) }
+        ≡ shortened 66 (frame_words names from octets.now (reading_of from octets.now))) }
 {
     let frame = reading_of(from, octets);
-    let words = frame_words(alloc, from, octets, &frame)?;
+    let words = frame_words(alloc, names, from, octets, &frame)?;
     let mut label = Vec::new(alloc);
     push_shortened(&mut label, MOST_WORDS, words.as_bytes())?;
     Ok(label)
@@ -263,12 +268,14 @@ fn label_words(alloc: Global, from: Option<Side>, octets: &[u8]) -> Result<Vec<u
 fn push_label(
     alloc: Global,
     text: &mut Vec<u8>,
+    names: bool,
     from: Option<Side>,
     octets: &[u8],
 ) -> Result<(), AllocError>
-    ensures { OnOk result (text.new.items ≡ text.old.items ++ label_element from octets.now) }
+    ensures { OnOk result (text.new.items
+        ≡ text.old.items ++ label_element names from octets.now) }
 {
-    let label = label_words(alloc, from, octets)?;
+    let label = label_words(alloc, names, from, octets)?;
     push_text(
         text,
         b"x=\"560\" y=\"-5\" class=\"middle\"",

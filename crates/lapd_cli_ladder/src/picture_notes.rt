@@ -6,6 +6,7 @@ ghost use Rattle.lapd_cli_render.specs.Names.{names_text};
 ghost use Rattle.lapd_cli_ladder.specs.Picture.{cut_words, joined, message_words, note_words, said_words};
 ghost use Rattle.lapd_follow.specs.Texts.{remarks_text};
 
+use crate::words::said_beside;
 use lapd_cli_render::{Packet, push_names};
 use lapd_follow::Remarks;
 use lapd_frame::Side;
@@ -25,7 +26,7 @@ pub(crate) fn push_note_words(
         ≡ text.old.items ++ note_words names packet from octets.now said.now) }
 {
     let message = message_words(alloc, names, from, octets)?;
-    let said = said_words(alloc, said)?;
+    let said = said_words(alloc, names, said)?;
     let mut both = Vec::new(alloc);
     push_joined(&mut both, message.as_slice(), said.as_slice())?;
     push_joined(text, cut_words(packet.is_cut), both.as_slice())
@@ -84,12 +85,12 @@ fn message_words_of(
 }
 
 /// The remarks, without the semicolon before the first.
-fn said_words(alloc: Global, said: &Option<Remarks>) -> Result<Vec<u8>, AllocError>
-    ensures { IfOk result (λ text. text.items ≡ said_words said.now) }
+fn said_words(alloc: Global, names: bool, said: &Option<Remarks>) -> Result<Vec<u8>, AllocError>
+    ensures { IfOk result (λ text. text.items ≡ said_words names said.now) }
 {
     let mut text = Vec::new(alloc);
     if let Some(said) = said {
-        let words = remarks_words(alloc, said)?;
+        let words = remarks_words(alloc, &said_beside(names, said))?;
         text.extend_from_slice(without_front(words.as_bytes(), 2))?;
     }
     Ok(text)

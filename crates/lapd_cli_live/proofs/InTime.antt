@@ -123,6 +123,7 @@ no_frame_ends until.Matched taken false e = cc
 no_wait_ends : (lines : Lines) (woken : Woken) → end_by_wait lines woken ≡ Some end_reason.End → ⊥
 no_wait_ends lines woken.Arrival e = cc
 no_wait_ends lines woken.Due e = cc
+no_wait_ends lines woken.Lost e = cc
 no_wait_ends lines woken.Closed e = cc
 no_wait_ends lines.Awaited woken.Line e = cc
 no_wait_ends lines.Ignored woken.Line e = cc

@@ -45,7 +45,8 @@ proceeding_happens : (service : Service) (a b : LiveState) (outcome : Option End
     → Proceeds service outcome a b → SomeHappen a b
 proceeding_happens service a b outcome (inl audits) = (_, audits.executes.happen)
 proceeding_happens service a b outcome (inr waits) =
-    some_both a waits.waited b (_, waits.waits.happen) (_, waits.reads.happen)
+    some_both a waits.waited b (_, waits.waits.happen)
+    (some_both waits.waited waits.read_to b (_, waits.reads.happen) (_, waits.prints.happen))
 
 ended_happens : (service : Service) (a b : LiveState) (outcome : Option EndReason)
     → IsMatched service a b outcome ⊎ IsOver service a b outcome

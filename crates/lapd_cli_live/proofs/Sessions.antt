@@ -1,8 +1,7 @@
 -- The input of a running side, put together.
 use Rattle.std.proofs.Common.{◌≡◌, ◌≢◌, ℕ, ◌+◌, ◌-◌, List, [], ◌∷◌, ◌++◌, length, cond, Bool, true, false, Option, None, Some, option_map, Result, Ok, Err, IsErrAnd, IfSome, OnOk, refl, sym, ap, subst, ◌∙◌, append_assoc, append-nil, length-append, inl, inr, arith}
 use Rattle.std.specs.Prelude.{⊤}
-use Rattle.std.specs.Io.KnownBytes.{Consumes, IsAtEnd, Keeps}
-use Rattle.std.proofs.KnownBytes.{Consumes-kept, Consumes-nil}
+use Rattle.std.specs.Io.KnownBytes.{Consumes, IsAtEnd}
 use Rattle.std.proofs.lemmas.Bool.{ne_eqb}
 use Rattle.lapd_sides.specs.Either.{side_of}
 use Rattle.lapd_cli_live_text.specs.LiveRequests.{live_request_of, live_request_of_line}

@@ -9,9 +9,7 @@ use Rattle.lapd_sides_links.specs.declared.side_fault.SideKind.TheVariants.{NoLi
 use Rattle.lapd_sides.specs.declared.either_side.EitherSide.{EitherSide}
 use Rattle.lapd_sides.specs.Either.{side_of}
 use Rattle.lapd_cli_wire.specs.declared.outside.Lines.{Lines}
-use Rattle.lapd_cli_live.specs.RecentOutput.{has_line}
-use Rattle.lapd_cli_live.specs.WaitingLines.{Expects, behind_line}
-use Rattle.lapd_cli_live.specs.LineDone.{FindsLine, LooksOut, sought}
+use Rattle.lapd_cli_live.specs.LineDone.{FindsLine, sought}
 use Rattle.lapd_cli_live.specs.declared.printer.Printer.{Printer}
 use Rattle.lapd_cli_wire.specs.IoEvents.{IoEvent}
 use Rattle.lapd_cli_wire.specs.declared.impairment.Impairment.{Impairment}

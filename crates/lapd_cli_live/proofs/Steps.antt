@@ -1,6 +1,6 @@
 -- The steps of a running side, put together.
 use Rattle.std.proofs.Common.{◌≡◌, ℕ, ◌+◌, ◌<◌, ◌≤◌, List, [], ◌∷◌, ◌++◌, length, Option, None, Some, Result, Ok, Err, OnOk, refl, sym, ap, subst, ◌∙◌, append_assoc, append-nil, inl, inr}
-use Rattle.std.specs.Prelude.{Bool, true, false, is_some, IfOk, OnErr, ⊤}
+use Rattle.std.specs.Prelude.{◌⊎◌, Bool, true, false, is_some, IfOk, OnErr, ⊤}
 use Rattle.std.proofs.lemmas.List.{length-append}
 use Rattle.lapd_frame.specs.declared.Side.{Side}
 use Rattle.lapd_sides_links.specs.Effects.{Effects}
@@ -17,12 +17,13 @@ use Rattle.lapd_cli_live.specs.declared.service.Until.TheVariants as until
 use Rattle.lapd_cli_live.specs.declared.service.EndReason.{EndReason}
 use Rattle.lapd_cli_live.specs.declared.service.EndReason.TheVariants as end_reason
 use Rattle.lapd_cli_wire.specs.declared.outside.Woken.{Woken}
+use Rattle.lapd_cli_wire.specs.declared.outside.Woken.TheVariants as woken
 use Rattle.lapd_cli_wire.specs.IoEvents.{Adds, Arrives, IoEvent, Waits}
 use Rattle.lapd_cli_wire.specs.declared.impairment.Impairment.{Impairment}
 use Rattle.lapd_cli_live.specs.Entries.{Entry, Prints, Received, moment_after}
 use Rattle.lapd_cli_live.specs.Printers.{PrintsOn, shown}
 use Rattle.lapd_cli_live.specs.Log.{Around, CarriesOut, CarriesOutAll, Chain, Happen, HappenBeside, IsCarriedOut, LiveEvent, LiveState, ReadsClock, Shows, is_matched, moment_of, read_at}
-use Rattle.lapd_cli_live.specs.Steps.{CatchesUp, DoesDue, EndsByFrame, Continues, IsReached, HasReceived, IsExecuted, IsServed, Looks, LooksInVain, Receives, Step, TakesAndContinues, TakesAt, TakesFrame, Proceeds, ended_by, refusal_events}
+use Rattle.lapd_cli_live.specs.Steps.{CatchesUp, DoesDue, EndsByFrame, Continues, IsReached, HasReceived, IsExecuted, IsServed, Looks, LooksInVain, Receives, Step, TakesAndContinues, TakesAt, TakesFrame, Proceeds, ended_by, loss_events, refusal_events}
 use Rattle.lapd_cli_wire.proofs.IoEvents.{adds_none, adds_same}
 use Rattle.lapd_cli_live.proofs.Log.{chain_more, happen_both, happen_none, live, prints_none}
 
@@ -332,6 +333,24 @@ flushed_and_waited contents side a b i j p q until woken prints adds same = reco
     most = refl;
   };
 }
+
+-- nothing is printed after a wait that no lost connection ended
+pub no_loss : (end : Woken) (a : LiveState)
+    → (end ≡ woken.Arrival) ⊎ ((end ≡ woken.Line) ⊎ ((end ≡ woken.Due) ⊎ (end ≡ woken.Closed)))
+    → HappenBeside (loss_events end) a a
+no_loss end a (inl is) =
+    subst (λ (x : Woken). HappenBeside (loss_events x) a a) (sym is) (beside_none a)
+no_loss end a (inr (inl is)) =
+    subst (λ (x : Woken). HappenBeside (loss_events x) a a) (sym is) (beside_none a)
+no_loss end a (inr (inr (inl is))) =
+    subst (λ (x : Woken). HappenBeside (loss_events x) a a) (sym is) (beside_none a)
+no_loss end a (inr (inr (inr is))) =
+    subst (λ (x : Woken). HappenBeside (loss_events x) a a) (sym is) (beside_none a)
+
+pub loss_as : (end is : Woken) (a b : LiveState) → end ≡ is → HappenBeside (loss_events is) a b
+    → HappenBeside (loss_events end) a b
+loss_as end is a b same happen =
+    subst (λ (x : Woken). HappenBeside (loss_events x) a b) (sym same) happen
 
 pub caught_up : (until : Until) (end_reason : Option EndReason) (a b c : LiveState)
     → HasReceived until end_reason a b → is_some end_reason ≡ false → DoesDue b c

@@ -1,6 +1,6 @@
 -- A running side, step by step. A step receives every frame that had arrived, then expires every
 -- timer that is due, and then does a step of an audit or waits once, until the next deadline.
-use Rattle.std.specs.Prelude.{◌≡◌, ◌⊎◌, ℕ, ◌+◌, ◌-◌, ◌/◌, ◌^◌, ◌<◌, ◌≤◌, Bool, true, false, List, [], ◌∷◌, ◌++◌, length, max, min, Option, None, Some, Result, Ok, Err, ⊤}
+use Rattle.std.specs.Prelude.{◌≡◌, ◌⊎◌, ℕ, ◌+◌, ◌-◌, ◌/◌, ◌^◌, ◌<◌, ◌≤◌, Bool, true, false, List, [], ◌∷◌, ◌++◌, length, codes, max, min, Option, None, Some, Result, Ok, Err, ⊤}
 use Rattle.lapd_timers.specs.Moments.{earlier}
 use Rattle.lapd_sides_links.specs.Effects.{Effects}
 use Rattle.lapd_sides_links.specs.declared.side_fault.SideFault.{SideFault}
@@ -22,7 +22,7 @@ use Rattle.lapd_cli_live.specs.declared.service.Until.TheVariants as until
 use Rattle.lapd_cli_live.specs.declared.service.EndReason.{EndReason}
 use Rattle.lapd_cli_live.specs.declared.service.EndReason.TheVariants as end_reason
 use Rattle.lapd_cli_wire.specs.IoEvents.{Arrives, FindsNone, Waits, is_reached}
-use Rattle.lapd_cli_live.specs.Entries.{Received, refused}
+use Rattle.lapd_cli_live.specs.Entries.{Entry, Received, Worded, refused}
 use Rattle.lapd_cli_live.specs.Log.{Around, CarriesOut, CarriesOutAll, Chain, Happen, HappenBeside, LiveEvent, LiveState, ReadsClock, Shows, is_matched, moment_of, read_at}
 
 -- ---- The end of a service.
@@ -39,6 +39,7 @@ ended_by until.Matched taken false = None
 abbrev pub end_by_wait : Lines → Woken → Option EndReason
 end_by_wait lines woken.Arrival = None
 end_by_wait lines woken.Due = None
+end_by_wait lines woken.Lost = None
 end_by_wait lines woken.Closed = Some end_reason.Closed
 end_by_wait Awaited woken.Line = Some end_reason.Line
 end_by_wait Ignored woken.Line = None
@@ -188,7 +189,17 @@ pub record IsOver (service : Service) (a b : LiveState) (outcome : Option EndRea
   pub is : outcome ≡ Some end_reason.End
   pub same : b ≡ a
 
--- one wait: until the next deadline or until the end, whichever is first; then the clock is read
+-- the line that a side prints after a wait: it says that a connection was lost, if that ended the
+-- wait
+abbrev pub connection_lost : Entry
+connection_lost = Worded (codes "connection lost")
+
+abbrev pub loss_events : Woken → List LiveEvent
+loss_events woken.Lost = Shows connection_lost ∷ []
+loss_events other = []
+
+-- one wait: until the next deadline or until the end, whichever is first; then the clock is read,
+-- and a lost connection is printed
 pub record WaitsFor (service : Service) (outcome : Option EndReason)
     (a b : LiveState) : Type 0 where
   pub deadline : Option ℕ
@@ -197,7 +208,9 @@ pub record WaitsFor (service : Service) (outcome : Option EndReason)
   pub waited : LiveState
   pub waits : HappenBeside (Around (Waits (earlier deadline service.end) woken) ∷ []) a waited
   pub now : ℕ
-  pub reads : ReadsClock now waited b
+  pub read_to : LiveState
+  pub reads : ReadsClock now waited read_to
+  pub prints : HappenBeside (loss_events woken) read_to b
   pub is : outcome ≡ end_by_wait service.lines woken
 
 -- a step of an audit is done, and the service continues

@@ -1,6 +1,6 @@
 //! A side that runs on the real clock.
 
-ghost use Rattle.std.specs.Prelude.{◌≡◌, map, IfOk, IfSome, OnErr, OnOk};
+ghost use Rattle.std.specs.Prelude.{◌≡◌, ◌∷◌, [], map, IfOk, IfSome, OnErr, OnOk};
 ghost use Rattle.std.specs.List.{All};
 ghost use Rattle.lapd_sides_links.specs.Effects.{HasLeastOctets};
 ghost use Rattle.lapd_frame.specs.declared.Side.{Side as SideValue};
@@ -50,8 +50,8 @@ pub struct LiveSide<O, W> {
 }
 
 impl<O: Outside, W: Write> LiveSide<O, W> {
-    ghost use Rattle.lapd_cli_live.specs.Log.{Between, IsCarriedOut, ReadsClock};
-    ghost use Rattle.lapd_cli_live.specs.Steps.{CatchesUp, DoesDue, EndsAfter, HasReceived, IsAsked, IsAskedFirst, IsExecuted, IsForAudit, IsServed, Looks, Proceeds, Step, TakesAt, WaitsFor};
+    ghost use Rattle.lapd_cli_live.specs.Log.{Between, HappenBeside, IsCarriedOut, ReadsClock, Shows};
+    ghost use Rattle.lapd_cli_live.specs.Steps.{CatchesUp, DoesDue, EndsAfter, HasReceived, IsAsked, IsAskedFirst, IsExecuted, IsForAudit, IsServed, Looks, Proceeds, Step, TakesAt, WaitsFor, connection_lost, loss_events};
 
     /// A side with these surroundings. `acts` is the buffer for the output of its calls. A step
     /// receives at most `most` frames, as [`frames_of_step`] returns it for its connections.
@@ -297,8 +297,32 @@ impl<O: Outside, W: Write> LiveSide<O, W> {
         }
     }
 
+    /// Prints that a connection was lost.
+    ///
+    /// # Errors
+    ///
+    /// `Memory`.
+    pub fn print_loss(&mut self) -> Result<(), LiveFault>
+        ensures { OnOk result (Between O.io_events O.impaired_by W.contents self.old self.new
+            (HappenBeside (Shows connection_lost ∷ []))) }
+    {
+        self.printer.put_words("connection lost")
+    }
+
+    /// Prints that a connection was lost, if that ended a wait.
+    fn put_loss(&mut self, woken: Woken) -> Result<(), LiveFault>
+        ensures { OnOk result (Between O.io_events O.impaired_by W.contents self.old self.new
+            (HappenBeside (loss_events woken))) }
+    {
+        match woken {
+            Woken::Lost => self.print_loss(),
+            Woken::Arrival | Woken::Line | Woken::Due | Woken::Closed => Ok(()),
+        }
+    }
+
     /// Waits once, until the next deadline or the end of the service, whichever is first. Then it
-    /// reads the clock, so that the next lines have the moment at which the wait ended.
+    /// reads the clock, so that the next lines have the moment at which the wait ended, and prints
+    /// that a connection was lost, if that ended the wait.
     fn wait(&mut self, service: Service) -> Result<Option<EndReason>, LiveFault>
         ensures { IfOk result (λ end_reason.
             Between O.io_events O.impaired_by W.contents self.old self.new
@@ -308,6 +332,7 @@ impl<O: Outside, W: Write> LiveSide<O, W> {
         let until = earlier(self.side.next_deadline(), service.end);
         let woken = self.outside.wait(until, service.lines)?;
         self.read_clock()?;
+        self.put_loss(woken)?;
         Ok(end_by_wait(service.lines, woken))
     }
 
@@ -489,6 +514,6 @@ fn end_by_wait(lines: Lines, woken: Woken) -> Option<EndReason>
     match (woken, lines) {
         (Woken::Closed, _) => Some(EndReason::Closed),
         (Woken::Line, Lines::Awaited) => Some(EndReason::Line),
-        (Woken::Line, Lines::Ignored) | (Woken::Arrival | Woken::Due, _) => None,
+        (Woken::Line, Lines::Ignored) | (Woken::Arrival | Woken::Lost | Woken::Due, _) => None,
     }
 }

@@ -27,6 +27,7 @@ pub(crate) struct Arrivals<'s> {
     /// - `5 wake`: a wait ends as if a frame had arrived, as it does after a part of a frame.
     /// - `5 line`: the next part of the input, or its end, can be read.
     /// - `5 stall 700`: the current wait or send, or else the next one, takes 700 ms longer.
+    /// - `5 lost`: a connection is lost.
     /// - `5 close`: the other side closes the connection. It also does so after the last event.
     pub(crate) events: &'s str,
     /// Frames that the other side answers immediately, one a line: the frame, a space and the
@@ -61,6 +62,7 @@ enum Event<'s> {
     Wake,
     Line,
     Stall(u64),
+    Lost,
     Close,
 }
 
@@ -166,7 +168,7 @@ impl<'s> Made<'s> {
                 self.now = self.now.saturating_add(1);
                 Some(digits)
             }
-            Event::Wake | Event::Line | Event::Stall(_) | Event::Close => None,
+            Event::Wake | Event::Line | Event::Stall(_) | Event::Lost | Event::Close => None,
         }
     }
 
@@ -188,6 +190,10 @@ impl<'s> Made<'s> {
             Event::Wake => {
                 self.pass();
                 Some(Woken::Arrival)
+            }
+            Event::Lost => {
+                self.pass();
+                Some(Woken::Lost)
             }
             Event::Close => Some(Woken::Closed),
             Event::Line | Event::Stall(_) => None,
@@ -248,6 +254,7 @@ fn event_of(what: &str) -> Option<Event<'_>> {
         Some(_) => None,
         None if what == "wake" => Some(Event::Wake),
         None if what == "line" => Some(Event::Line),
+        None if what == "lost" => Some(Event::Lost),
         None if what == "close" => Some(Event::Close),
         None => Some(Event::Frame(what)),
     }

@@ -302,6 +302,44 @@ read
 ---
 5 0 64 state 4 V(S)=0 V(A)=0 V(R)=0 RC=0 queue=0
 5 refused S1 End
+=== a lost connection is printed at once, and expected later
+net pipe done
+5 lost
+5 close
+---
+expect connection lost 10
+|read
+---
+5 connection lost
+5 refused S1 End
+=== a side of several connections is served on after a lost one
+bus pipe quiet done
+5 lost
+6 00817f
+9 line
+9 line
+---
+expect connection lost 10
+expect 0 64 established 10
+---
+5 connection lost
+6 0 64 established
+=== a lost connection ends an expect of it, and is an object with --json
+net file json quiet done
+5 lost
+---
+expect connection lost 10
+---
+{"line":"connection lost","time":5}
+=== a line of a file is executed before a lost connection is printed
+net file done
+0 lost
+---
+state 0 64
+wait 5
+---
+0 0 64 state 4 V(S)=0 V(A)=0 V(R)=0 RC=0 queue=0
+0 connection lost
 === a session ends once the connection is closed
 net session done
 5 line

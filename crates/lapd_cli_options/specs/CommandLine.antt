@@ -15,7 +15,7 @@ use Rattle.lapd_cli_options.specs.declared.invocation.DecodeOptions.{DecodeOptio
 use Rattle.lapd_cli_options.specs.declared.invocation.PrintedLayout.{PrintedLayout}
 use Rattle.lapd_cli_options.specs.declared.invocation.PrintedLayout.TheVariants.{Lines, Ladder, Picture, Page, Capture, Calls}
 use Rattle.lapd_cli_options.specs.declared.invocation.PrintedTime.{PrintedTime}
-use Rattle.lapd_cli_options.specs.declared.invocation.PrintedTime.TheVariants.{Hidden, Absolute, Relative, Delta, Day}
+use Rattle.lapd_cli_options.specs.declared.invocation.PrintedTime.TheVariants.{Hidden, Absolute, Relative, Delta, Day, Utc, Local}
 use Rattle.lapd_cli_options.specs.declared.invocation.Job.{Job}
 use Rattle.lapd_cli_options.specs.declared.invocation.Job.TheVariants.{Answer}
 
@@ -84,6 +84,8 @@ drawn_time Absolute = Absolute
 drawn_time Relative = Relative
 drawn_time Delta = Delta
 drawn_time Day = Day
+drawn_time Utc = Utc
+drawn_time Local = Local
 
 -- the time of each frame of a capture, in this layout
 abbrev pub time_by : PrintedLayout → PrintedTime → PrintedTime

@@ -120,7 +120,9 @@ fn word_arg<'a>(alloc: Global, option: &WordOption) -> Arg<'a> {
 }
 
 fn bare_word_arg<'a>(alloc: Global, option: &WordOption) -> Arg<'a> {
-    value_arg(alloc, option.name, option.value_name, option.help).value_parser(option.words)
+    value_arg(alloc, option.name, option.value_name, option.help)
+        .value_parser(option.words)
+        .hide_possible_values(true)
 }
 
 fn words_arg<'a>(alloc: Global, option: &WordOption) -> Arg<'a> {

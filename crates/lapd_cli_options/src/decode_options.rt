@@ -200,8 +200,8 @@ fn window_of<'a>(given: &ArgMatches<'a>) -> Result<Option<u8>, NoInvocation<'a>>
     }
 }
 
-// The requested time of each frame. A script on standard input has none, and a page, a capture and
-// a table of calls have their own.
+// The requested time of each frame. A script on standard input has none; a page, a capture and a
+// table of calls have their own.
 fn time_of<'a>(
     given: &ArgMatches<'a>,
     layout: PrintedLayout,
@@ -211,6 +211,8 @@ fn time_of<'a>(
         Some("relative") => PrintedTime::Relative,
         Some("delta") => PrintedTime::Delta,
         Some("day") => PrintedTime::Day,
+        Some("utc") => PrintedTime::Utc,
+        Some("local") => PrintedTime::Local,
         _ => return Ok(PrintedTime::Hidden),
     };
     if matches!(
@@ -219,7 +221,7 @@ fn time_of<'a>(
     ) {
         return Err(NoInvocation::NotBoth("time", option_of(layout)));
     }
-    if given.get_str("pcap").is_some() || has_files(given) {
+    if given.get_str("pcap").is_some() || has_files(given) || given.get_flag("loose") {
         Ok(time)
     } else {
         Err(NoInvocation::NotCaptured("time"))

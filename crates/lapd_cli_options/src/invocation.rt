@@ -162,7 +162,7 @@ pub struct DecodeOptions {
     pub keep_going: bool,
     /// How the links are followed; `None` if they are not.
     pub follow: Option<FollowOptions>,
-    /// The requested time before each trace line of a capture.
+    /// The requested time before each trace line of a capture or a log.
     pub time: PrintedTime,
     /// After how many printed frames the output ends, at least 1; never if `None`.
     pub count: Option<u64>,
@@ -203,7 +203,7 @@ pub enum PrintedLayout {
     Calls,
 }
 
-/// The time before each trace line of a capture.
+/// The time before each trace line of a capture or a log.
 #[derive(Clone, Copy)]
 pub enum PrintedTime {
     /// None.
@@ -216,6 +216,10 @@ pub enum PrintedTime {
     Delta,
     /// The time of day, of the time zone UTC.
     Day,
+    /// The date and the time of day, of the time zone UTC.
+    Utc,
+    /// The same of the user's time zone. A log whose times have no zone has its own.
+    Local,
 }
 
 /// The options of `decode --follow`.

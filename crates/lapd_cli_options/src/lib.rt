@@ -22,6 +22,7 @@ mod option_tables;
 mod parser;
 mod program_words;
 mod script_command;
+pub mod side_help;
 mod tips;
 
 use clap::{ArgMatches, Command};

@@ -26,7 +26,8 @@ pub enum NoInvocation<'a> {
     NotLinks(&'static str),
     /// The option with this name, without the hyphens, requires `--names`, which is absent.
     NotNamed(&'static str),
-    /// The option with this name, without the hyphens, requires a capture, and there is no file.
+    /// The option with this name, without the hyphens, requires a capture or a log: there is no file,
+    /// and standard input is read as a script.
     NotCaptured(&'static str),
     /// `--pcap` is present, and files besides.
     PcapAndFile,
@@ -66,7 +67,7 @@ impl fmt::Display for NoInvocation<'_> {
             NoInvocation::NotCaptured(option) => {
                 writeln!(
                     f,
-                    "error: --{option} requires a capture: --pcap FILE, or FILE"
+                    "error: --{option} requires a capture or a log: --pcap FILE, FILE, or --loose"
                 )
             }
             NoInvocation::PcapAndFile => {

@@ -174,7 +174,7 @@ const LIVE: &[CommandOption] = &[
 const SIDE: WordOption = WordOption {
     name: "side",
     value_name: "SIDE",
-    help: "The side of the link",
+    help: "The side of the link, net or user",
     words: &["net", "user"],
     default: "net",
 };
@@ -187,12 +187,14 @@ const SENDER: WordOption = WordOption {
     ..SIDE
 };
 
-/// The time before each trace line that `decode` prints of a capture.
+/// The time before each trace line that `decode` prints of a capture or a log.
 const FRAME_TIME: WordOption = WordOption {
     name: "time",
     value_name: "TIME",
     help: help::FRAME_TIME,
-    words: &["none", "absolute", "relative", "delta", "day"],
+    words: &[
+        "none", "absolute", "relative", "delta", "day", "utc", "local",
+    ],
     default: "none",
 };
 

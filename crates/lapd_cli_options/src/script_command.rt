@@ -1,7 +1,7 @@
 //! The commands that execute a script: their names, their help and their options.
 
 use crate::command_option::CommandOption;
-use crate::{command_help, decode_help, help, option_tables};
+use crate::{command_help, decode_help, help, option_tables, side_help};
 
 /// A command that executes a script.
 #[derive(Clone, Copy, PartialEq, Eq)]
@@ -70,8 +70,8 @@ impl ScriptCommand {
             ScriptCommand::Bus => command_help::BUS,
             ScriptCommand::Pair => command_help::PAIR,
             ScriptCommand::Loop => command_help::LOOP,
-            ScriptCommand::Net => command_help::NET,
-            ScriptCommand::User => command_help::USER,
+            ScriptCommand::Net => side_help::NET,
+            ScriptCommand::User => side_help::USER,
             ScriptCommand::Decode => decode_help::DECODE,
         }
     }

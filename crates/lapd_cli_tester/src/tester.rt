@@ -150,7 +150,7 @@ fn test_by_suite(
             Err(status) => status,
         },
     };
-    connection::close(rt, &notes, station.into_stream());
+    connection::close(rt, &notes, station.into_stream(), false);
     status
 }
 
@@ -172,7 +172,7 @@ fn test_by_draws(rt: &HostRuntime, setup: &TesterSetup<'_>, stack: &Stack, plan:
             Err(status) => status,
         },
     };
-    connection::close(rt, &notes, station.into_stream());
+    connection::close(rt, &notes, station.into_stream(), false);
     status
 }
 

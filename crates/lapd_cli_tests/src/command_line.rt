@@ -96,6 +96,8 @@ lapd decode --time delta a --svg b => decode follow picture delta count 10000 of
 lapd decode -- --follow => decode of --follow
 lapd decode --time none --kinds i,s,u => decode
 lapd decode --time absolute --pcap a => decode absolute
+lapd decode --time local a => decode local of a
+lapd decode --time utc --loose => decode utc
 lapd decode --time=relative --pcap=a => decode relative
 lapd decode --time day a => decode day of a
 lapd decode --no-octets --names --follow => decode follow no-octets
@@ -242,7 +244,7 @@ lapd decode --no-octets => error: --no-octets requires --names~
 lapd decode --no-octets --names --json => error: --no-octets cannot be used with --json~
 lapd decode --no-octets --names --svg a => error: --no-octets cannot be used with --svg~
 lapd decode --ladder --no-octets => error: --no-octets cannot be used with --ladder~
-lapd decode --time delta => error: --time requires a capture: --pcap FILE, or FILE~
+lapd decode --time delta => error: --time requires a capture or a log: --pcap FILE, FILE, or --loose~
 lapd decode --pcap a b => error: --pcap cannot be used with FILE; without --pcap, FILE may be a capture~
 lapd decode a b --svg c => error: --svg takes one FILE~
 lapd decode --ladder --json => error: --ladder cannot be used with --json~
@@ -537,6 +539,8 @@ fn show_output(text: &mut String, options: &DecodeOptions) {
     let _ = text.push_str(match options.time {
         PrintedTime::Hidden => "",
         PrintedTime::Absolute => " absolute",
+        PrintedTime::Utc => " utc",
+        PrintedTime::Local => " local",
         PrintedTime::Relative => " relative",
         PrintedTime::Delta => " delta",
         PrintedTime::Day => " day",

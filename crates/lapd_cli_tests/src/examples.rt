@@ -2,7 +2,7 @@
 
 use crate::scenarios::{Trial, words_pass};
 use lapd_cli_console::Script;
-use lapd_cli_options::{command_help, decode_help};
+use lapd_cli_options::{command_help, decode_help, side_help};
 use std::alloc::Global;
 
 /// A help text. The texts are long, so only this function names them.
@@ -12,9 +12,9 @@ pub(crate) fn text_of(script: Script) -> &'static str {
         Script::Bus | Script::BusLinks => command_help::BUS,
         Script::Decode => decode_help::DECODE,
         Script::Loop => command_help::LOOP,
-        Script::Net | Script::LiveNet => command_help::NET,
+        Script::Net | Script::LiveNet => side_help::NET,
         Script::Pair => command_help::PAIR,
-        Script::User | Script::LiveUser => command_help::USER,
+        Script::User | Script::LiveUser => side_help::USER,
     }
 }
 

@@ -13,7 +13,9 @@ pub struct AddressOption {
 /// The address on which the network side listens.
 pub const LISTEN: AddressOption = AddressOption {
     name: "listen",
-    help: "Waits at this address for a connection, such as 127.0.0.1:4000",
+    help: "\
+Waits at this address for a connection, such as
+127.0.0.1:4000",
 };
 
 /// The address to which the user side connects.
@@ -26,6 +28,6 @@ pub const CONNECT: AddressOption = AddressOption {
 pub const GSMTAP: AddressOption = AddressOption {
     name: "gsmtap",
     help: "\
-With --clock real, sends each frame as GSMTAP over UDP to this
-address, such as 127.0.0.1:4729",
+With --clock real, sends each frame as GSMTAP
+over UDP to this address, such as 127.0.0.1:4729",
 };

@@ -27,8 +27,8 @@ pub const K: NumberOption = NumberOption {
     name: "k",
     value_name: "FRAMES",
     help: "\
-The
-most outstanding I frames, the window k, 1 to 127",
+The most outstanding I frames, the window k, 1
+to 127",
     default: "1",
     least: 1,
     most: 127,
@@ -38,7 +38,9 @@ most outstanding I frames, the window k, 1 to 127",
 pub const N200: NumberOption = NumberOption {
     name: "n200",
     value_name: "TIMES",
-    help: "The most retransmissions of a frame, N200, 1 to 100",
+    help: "\
+The most retransmissions of a frame, N200, 1
+to 100",
     default: "3",
     least: 1,
     most: 100,
@@ -48,7 +50,9 @@ pub const N200: NumberOption = NumberOption {
 pub const ROOM: NumberOption = NumberOption {
     name: "room",
     value_name: "MESSAGES",
-    help: "The most messages in the I queue, 1 to 1024",
+    help: "\
+The most messages in the I queue, 1 to
+1024",
     default: "512",
     least: 1,
     most: 1024,
@@ -58,7 +62,9 @@ pub const ROOM: NumberOption = NumberOption {
 pub const TERMINALS: NumberOption = NumberOption {
     name: "terminals",
     value_name: "TERMINALS",
-    help: "The number of terminals on the bus, 1 to 127",
+    help: "\
+The number of terminals on the bus, 1 to
+127",
     default: "2",
     least: 1,
     most: 127,
@@ -69,8 +75,9 @@ pub const CONNECTED_TERMINALS: NumberOption = NumberOption {
     name: "terminals",
     value_name: "TERMINALS",
     help: "\
-With --clock real, the number of connections that are accepted, each
-of a terminal on the bus, 1 to 127 [default: 1]",
+With --clock real, the number of connections that
+are accepted, each of a terminal on the bus, 1 to
+127 [default: 1]",
     default: "",
     least: 1,
     most: 127,
@@ -82,8 +89,9 @@ pub const IDLE_LIMIT: NumberOption = NumberOption {
     name: "idle-limit",
     value_name: "MS",
     help: "\
-With --clock real, closes a connection that has sent no whole frame
-for this many milliseconds, 1 to 3600000",
+With --clock real, closes a connection that has
+sent no whole frame for this many milliseconds, 1
+to 3600000",
     default: "",
     least: 1,
     most: 3_600_000,
@@ -94,8 +102,9 @@ pub const AUDIT: NumberOption = NumberOption {
     name: "audit",
     value_name: "MS",
     help: "\
-With --terminals above 1 or --keep, the milliseconds from one audit
-of the terminals' TEIs to the next, 1 to 3600000 [default: 60000]",
+With --terminals above 1 or --keep, the
+milliseconds from one audit of the terminals'
+TEIs to the next, 1 to 3600000 [default: 60000]",
     default: "",
     least: 1,
     most: 3_600_000,
@@ -116,7 +125,9 @@ pub const LINK_TEI: NumberOption = NumberOption {
 pub const KNOWN_TEI: NumberOption = NumberOption {
     name: "tei",
     value_name: "TEI",
-    help: "A TEI that is known from the start, 0 to 126; may be repeated",
+    help: "\
+A TEI that is known from the start, 0 to 126; may
+be repeated",
     default: "",
     least: 0,
     most: 126,
@@ -126,7 +137,9 @@ pub const KNOWN_TEI: NumberOption = NumberOption {
 pub const FIXED_TEI: NumberOption = NumberOption {
     name: "tei",
     value_name: "TEI",
-    help: "The fixed TEI of this side, 0 to 126; the side then requests none",
+    help: "\
+The fixed TEI of this side, 0 to 126; the side then
+requests none",
     default: "",
     least: 0,
     most: 126,
@@ -138,8 +151,9 @@ pub const LINKS_K: NumberOption = NumberOption {
     name: "k",
     value_name: "FRAMES",
     help: "\
-The most outstanding I frames of a link, the window k, 1 to 127
-[default: 1 for SAPI 0 and 3 for SAPI 16; with --pri 7]",
+The most outstanding I frames of a link, the
+window k, 1 to 127 [default: 1 for SAPI 0 and 3
+for SAPI 16; with --pri 7]",
     default: "",
     least: 1,
     most: 127,
@@ -150,7 +164,9 @@ The most outstanding I frames of a link, the window k, 1 to 127
 pub const FOLLOWED_K: NumberOption = NumberOption {
     name: "k",
     value_name: "FRAMES",
-    help: "With --follow, the window k of all links, 1 to 127; if absent, 127",
+    help: "\
+With --follow, the window k of all links, 1 to 127; if
+absent, 127",
     default: "",
     least: 1,
     most: 127,
@@ -161,8 +177,8 @@ pub const COUNT: NumberOption = NumberOption {
     name: "count",
     value_name: "FRAMES",
     help: "\
-Ends after this many frames were printed, 1 to 18446744073709551615; if
-absent, at the end of the input",
+Ends after this many frames were printed, 1 to
+18446744073709551615; if absent, at the end of the input",
     default: "",
     least: 1,
     most: 18_446_744_073_709_551_615,
@@ -193,8 +209,8 @@ pub const PRINTED_CALL: NumberOption = NumberOption {
     name: "call",
     value_name: "NUMBER",
     help: "\
-Prints only frames with a message of Q.931 that has this call reference,
-0 to 32767",
+Prints only frames with a message of Q.931 that has this
+call reference, 0 to 32767",
     default: "",
     least: 0,
     most: 32_767,
@@ -205,8 +221,8 @@ pub const T200: NumberOption = NumberOption {
     name: "t200",
     value_name: "MS",
     help: "\
-How long T200 runs before a frame is sent again, in milliseconds, 1
-to 3600000",
+How long T200 runs before a frame is sent again,
+in milliseconds, 1 to 3600000",
     default: "1000",
     least: 1,
     most: 3_600_000,
@@ -217,8 +233,9 @@ pub const T201: NumberOption = NumberOption {
     name: "t201",
     value_name: "MS",
     help: "\
-How long T201 of the network side runs before a TEI is checked again,
-in milliseconds, 1 to 3600000",
+How long T201 of the network side runs before a
+TEI is checked again, in milliseconds, 1 to
+3600000",
     default: "1000",
     least: 1,
     most: 3_600_000,
@@ -229,8 +246,9 @@ pub const T202: NumberOption = NumberOption {
     name: "t202",
     value_name: "MS",
     help: "\
-How long T202 of the user side runs before a TEI is requested again,
-in milliseconds, 1 to 3600000",
+How long T202 of the user side runs before a TEI
+is requested again, in milliseconds, 1 to
+3600000",
     default: "2000",
     least: 1,
     most: 3_600_000,
@@ -241,8 +259,9 @@ pub const T203: NumberOption = NumberOption {
     name: "t203",
     value_name: "MS",
     help: "\
-How long T203 runs on an idle link before an enquiry is sent, in
-milliseconds, 1 to 3600000",
+How long T203 runs on an idle link before an
+enquiry is sent, in milliseconds, 1 to
+3600000",
     default: "10000",
     least: 1,
     most: 3_600_000,
@@ -254,9 +273,9 @@ pub const SEED: NumberOption = NumberOption {
     name: "seed",
     value_name: "NUMBER",
     help: "\
-The seed of the user side's references of TEI management, 0 to
-18446744073709551615 [default: 921; with --clock real drawn from the
-system]",
+The seed of the user side's references of TEI
+management, 0 to 18446744073709551615 [default:
+921; with --clock real drawn from the system]",
     default: "",
     least: 0,
     most: 18_446_744_073_709_551_615,

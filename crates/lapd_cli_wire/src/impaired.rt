@@ -83,7 +83,7 @@ impl<O: Outside> Impaired<O> {
     {
         match woken {
             Woken::Due => Ok(is_reached(until, self.inner.moment()?)),
-            Woken::Arrival | Woken::Line | Woken::Closed => Ok(true),
+            Woken::Arrival | Woken::Lost | Woken::Line | Woken::Closed => Ok(true),
         }
     }
 

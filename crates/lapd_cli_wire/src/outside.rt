@@ -20,6 +20,9 @@ pub const MOST_RECEIVED: usize = MOST_OCTETS + 1;
 pub enum Woken {
     /// A frame may have arrived, or an audit may have a step to do.
     Arrival,
+    /// A connection was lost. Each loss ends one wait, once every frame that had arrived over the
+    /// connection was received.
+    Lost,
     /// A line of input can be read.
     Line,
     /// The moment until which the call should wait is reached.
@@ -98,8 +101,8 @@ pub trait Outside {
         ensures err { OnErr result (io_events self.new ≡ io_events self.old) }
         ensures impaired_by { impaired_by self.new ≡ impaired_by self.old };
 
-    /// Waits until a frame may have arrived, a line of input can be read, the connection is closed,
-    /// or the moment `until` is reached. `None` is no moment.
+    /// Waits until a frame may have arrived, a line of input can be read, a connection is lost, the
+    /// only one is closed, or the moment `until` is reached. `None` is no moment.
     ///
     /// # Errors
     ///

@@ -1,8 +1,10 @@
 pub mod ComputedRemarks
 pub mod Bounds
 pub mod Counted
+pub mod Directions
 pub mod Kept
 pub mod Middles
 pub mod NthTimes
 pub mod Octets
 pub mod Turned
+pub mod TwoDirections

@@ -1,6 +1,8 @@
 -- The state of one end of a data link, as far as the frames seen on the line show it.
 use Rattle.std.specs.Prelude.{ℕ, ◌+◌, ◌-◌, ◌^◌, ◌==◌, ◌||◌, not, min, nat_le, if◌then◌else◌, Bool, true, false, List, [], ◌∷◌, ◌++◌, length, drop, slice_get, Option, Some, None}
 use Rattle.lapd_mod128.specs.Counting.{Tagged, after, steps, lies_within}
+use Rattle.lapd_follow.specs.declared.learned.Learned.{Learned}
+use Rattle.lapd_follow.specs.declared.learned.Learned.TheVariants.{Nothing}
 use Rattle.lapd_follow.specs.declared.packet.Packet.{Packet}
 use Rattle.lapd_follow.specs.declared.polls.Polls.{Polls}
 use Rattle.lapd_follow.specs.declared.numbering.Numbering.{Numbering}
@@ -87,13 +89,14 @@ from_end n frames = if nat_le n (length frames) then slice_get frames (length fr
 
 -- ---- One end.
 
--- The numbers of its frames, if they are known. The octets of its I frames up to the next
+-- The numbers of its frames, if they are known; what is learned of them before. The octets of its I frames up to the next
 -- N(S) that its peer has not acknowledged, oldest first, 127 at most. Whether it is busy (5.6.6).
 -- Its I, RR, RNR and REJ commands with P=1, and the last of them while it awaits an answer (5.6.7).
 -- Its SABME and DISC commands, whether the last was a SABME, and whether that had P=1. Whether it
 -- sends no I or S frame until its link is established again (5.5.4).
 pub record EndKnown : Type 0 where
   pub numbering : Option Numbering
+  pub learned : Learned
   pub unacknowledged : List (List ℕ)
   pub busy : Busy
   pub polls : Polls
@@ -107,6 +110,7 @@ pub record EndKnown : Type 0 where
 unfoldable pub new_end : EndKnown
 new_end = record {
   numbering = None;
+  learned = Nothing;
   unacknowledged = [];
   busy = Free;
   polls = unseen_polls;
@@ -136,6 +140,14 @@ unnumbered e = record e {
   busy = Free;
   awaited = None;
 }
+
+-- its numbers are these
+unfoldable pub with_numbering : Option Numbering → EndKnown → EndKnown
+with_numbering numbering e = record e { numbering = numbering }
+
+-- this is learned of its numbers
+unfoldable pub with_learned : Learned → EndKnown → EndKnown
+with_learned learned e = record e { learned = learned }
 
 -- its link is released at this end, or not
 unfoldable pub with_release : Bool → EndKnown → EndKnown

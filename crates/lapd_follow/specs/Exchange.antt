@@ -1,7 +1,7 @@
 -- The state of both ends after a frame, as its sender and its receiver show it on the line. The
 -- listener may be at either end or between them. So an end received only frames that the listener
 -- saw before.
-use Rattle.std.specs.Prelude.{ℕ, ◌==◌, ◌&&◌, not, if◌then◌else◌, Bool, true, false, List, [], is_some}
+use Rattle.std.specs.Prelude.{ℕ, ◌==◌, ◌&&◌, ◌||◌, not, if◌then◌else◌, Bool, true, false, List, [], is_some}
 use Rattle.lapd_frame.specs.declared.Side.{Side}
 use Rattle.lapd_frame.specs.declared.Side.TheVariants.{Network, User}
 use Rattle.lapd_frame.specs.declared.Role.{Role}
@@ -14,13 +14,16 @@ use Rattle.lapd_follow.specs.declared.packet.Packet.{Packet}
 use Rattle.lapd_follow.specs.declared.polls.Polls.{Polls}
 use Rattle.lapd_follow.specs.declared.end.Busy.{Busy}
 use Rattle.lapd_follow.specs.declared.end.Busy.TheVariants.{Free, Reported, Answered}
-use Rattle.lapd_follow.specs.Ends.{EndKnown, one_more, begun, unnumbered, with_release, with_busy, has_polled, poll_answered, polls_ended, has_commanded, command_answered, commands_ended, has_sent, has_acknowledged, is_acknowledged, is_valid_nr}
+use Rattle.lapd_follow.specs.Ends.{EndKnown, one_more, begun, unnumbered, with_learned, with_numbering, with_release, with_busy, has_polled, poll_answered, polls_ended, has_commanded, command_answered, commands_ended, has_sent, has_acknowledged, is_acknowledged, is_valid_nr}
+use Rattle.lapd_follow.specs.Learning.{after_ns, after_response, learned_numbering}
 
--- the end that sent the frame, the other end, and how many establishments began
+-- The end that sent the frame, the other end, how many establishments began, and whether the last
+-- one is known to last.
 pub record Exchange : Type 0 where
   pub from : EndKnown
   pub to : EndKnown
   pub establishments : ℕ
+  pub is_established : Bool
 
 -- the same, seen from the other end
 unfoldable pub turned : Side → Side → Exchange → Exchange
@@ -49,6 +52,7 @@ disconnects f x = record (sender_begins x) {
   from = with_release true (begun x.from);
   to = if f then command_answered (polls_ended (unnumbered x.to))
       else polls_ended (unnumbered x.to);
+  is_established = false;
 }
 
 -- this end sent a SABME that is not answered
@@ -73,6 +77,7 @@ accepts x = record {
       (with_release (x.to.is_released && answers_disc x.to) x.to)));
   establishments = if begins_establishment x then one_more x.establishments
       else x.establishments;
+  is_established = not (answers_disc x.to) && (begins_establishment x || x.is_established);
 }
 
 -- A UA that answers an earlier SABME or DISC, or none: its sender begins anew, and the numbers of
@@ -144,6 +149,48 @@ reports busy x = record x { from = with_busy busy x.from }
 unfoldable pub supervises : Role → Bool → ℕ → Busy → Packet → Exchange → Exchange
 supervises role pf nr busy packet x = poll_or_final role pf packet (reports busy (takes_nr nr x))
 
+-- ---- Numbers that are learned, while the numbers of neither end are known.
+
+-- an N(S) and a P bit of the sender
+unfoldable pub learns_ns : ℕ → Bool → Exchange → Exchange
+learns_ns ns p x = record x { from = with_learned (after_ns ns p x.from.learned) x.from }
+
+-- an N(R) of the sender, in a frame that answers the only open poll, or not
+unfoldable pub learns_nr : Bool → ℕ → Exchange → Exchange
+learns_nr is_answer nr x = record x {
+  to = with_learned (after_response is_answer nr x.to.learned) x.to;
+}
+
+abbrev pub learns_from : Control → Role → Exchange → Exchange
+learns_from (I ns nr p) role x = learns_ns ns p (learns_nr false nr x)
+learns_from (Rr nr pf) role x = learns_nr (answers_only_poll role pf x.to.polls) nr x
+learns_from (Rnr nr pf) role x = learns_nr (answers_only_poll role pf x.to.polls) nr x
+learns_from (Rej nr pf) role x = learns_nr (answers_only_poll role pf x.to.polls) nr x
+learns_from control role x = x
+
+-- The numbers of neither end are known: neither sent a SABME, DISC, UA or DM.
+abbrev pub is_unnumbered : Exchange → Bool
+is_unnumbered x = not (is_some x.from.numbering || is_some x.to.numbering)
+
+-- what is known with a frame of this sender, before it is judged
+unfoldable pub learns : Control → Role → Exchange → Exchange
+learns control role x = if is_unnumbered x then learns_from control role x else x
+
+-- the numbers of both ends are learned
+abbrev pub is_learned : Exchange → Bool
+is_learned x = is_unnumbered x && is_some (learned_numbering x.from.learned x.to.learned)
+
+-- From then on the link is followed, as one that is established.
+unfoldable pub numbered : Exchange → Exchange
+numbered x = record x {
+  from = with_numbering (learned_numbering x.from.learned x.to.learned) x.from;
+  to = with_numbering (learned_numbering x.to.learned x.from.learned) x.to;
+  is_established = true;
+}
+
+unfoldable pub numbered_if_learned : Exchange → Exchange
+numbered_if_learned x = if is_learned x then numbered x else x
+
 -- ---- Each frame. UI, FRMR and XID leave everything unchanged.
 abbrev pub after_control : Control → Role → List ℕ → Packet → Exchange → Exchange
 after_control (I ns nr p) role octets packet x = polls p packet (sends ns octets (takes_nr nr x))
@@ -164,6 +211,7 @@ abbrev pub kept_octets : Control → List ℕ → List ℕ
 kept_octets (I ns nr p) info = info
 kept_octets control info = []
 
--- the state after a frame in this packet
+-- the state after a frame in this packet, of which is known already what it teaches
 abbrev pub known_after : Packet → Fields → Exchange → Exchange
-known_after packet f x = after_control f.control f.address.role f.info packet x
+known_after packet f x =
+    numbered_if_learned (after_control f.control f.address.role f.info packet x)

@@ -1,5 +1,5 @@
 -- All data links of a line, by SAPI and TEI, and the assignment of TEIs.
-use Rattle.std.specs.Prelude.{ℕ, ◌+◌, ◌*◌, ◌==◌, if◌then◌else◌, List, map, set, replicate, slice_get, Option, Some, None}
+use Rattle.std.specs.Prelude.{ℕ, ◌+◌, ◌*◌, ◌==◌, if◌then◌else◌, Bool, false, List, map, set, replicate, slice_get, Option, Some, None}
 use Rattle.lapd_frame.specs.declared.Sapi.{Sapi}
 use Rattle.lapd_frame.specs.declared.Sapi.TheVariants.{Call, Packet, Management}
 use Rattle.lapd_frame.specs.declared.Address.{Address}
@@ -7,7 +7,7 @@ use Rattle.lapd_follow.specs.declared.identity.Identity.{Identity}
 use Rattle.lapd_follow.specs.declared.remark.Remark.TheVariants.{Manages}
 use Rattle.lapd_follow.specs.declared.remarks.Remarks.{Remarks}
 use Rattle.lapd_follow.specs.Identities.{identity_of, renewed}
-use Rattle.lapd_follow.specs.Link.{LinkKnown, Sighting, new_link, said_of, link_after}
+use Rattle.lapd_follow.specs.Link.{LinkKnown, Sighting, is_followed, new_link, said_of, link_after}
 use Rattle.lapd_follow.specs.Teis.{TeisKnown, conflict_of, new_teis, teis_after}
 
 -- ---- Links.
@@ -112,6 +112,14 @@ line_anew line = record {
   links = record line.links { links = map no_link line.links.links };
   teis = new_teis;
 }
+
+-- the numbers of both ends of the link with this address are known
+abbrev pub is_seen_followed : Option LinkKnown → Bool
+is_seen_followed None = false
+is_seen_followed (Some l) = is_followed l
+
+abbrev pub is_followed_on : Address → LineKnown → Bool
+is_followed_on a line = is_seen_followed (seen_link (slice_get line.links.links (place_of a)))
 
 -- the line after a frame
 abbrev pub line_after : Sighting → LineKnown → LineKnown

@@ -1,5 +1,5 @@
 -- One data link that is followed, and the frames of both ends in the order in which they are seen.
-use Rattle.std.specs.Prelude.{ℕ, List, [], ◌∷◌, Option}
+use Rattle.std.specs.Prelude.{ℕ, List, [], ◌∷◌, ◌&&◌, Bool, false, Option, is_some}
 use Rattle.lapd_frame.specs.declared.Side.{Side}
 use Rattle.lapd_frame.specs.declared.Side.TheVariants.{Network, User}
 use Rattle.lapd_frame.specs.Address.{other_side}
@@ -7,19 +7,27 @@ use Rattle.lapd_frame.specs.Frame.{Fields}
 use Rattle.lapd_follow.specs.declared.packet.Packet.{Packet}
 use Rattle.lapd_follow.specs.declared.remarks.Remarks.{Remarks}
 use Rattle.lapd_follow.specs.Ends.{EndKnown, new_end}
-use Rattle.lapd_follow.specs.Exchange.{Exchange, known_after}
+use Rattle.lapd_follow.specs.Exchange.{Exchange, known_after, learns}
 use Rattle.lapd_follow.specs.Remarks.{remarks_on}
 
--- the window k, if it is known; both ends; how many establishments began
+-- The window k, if it is known; both ends; how many establishments began, and whether the last one
+-- is known to last.
 pub record LinkKnown : Type 0 where
   pub k : Option ℕ
   pub user : EndKnown
   pub network : EndKnown
   pub establishments : ℕ
+  pub is_established : Bool
 
 -- nothing was seen
 abbrev pub new_link : Option ℕ → LinkKnown
-new_link k = record { k = k; user = new_end; network = new_end; establishments = 0 }
+new_link k = record {
+  k = k;
+  user = new_end;
+  network = new_end;
+  establishments = 0;
+  is_established = false;
+}
 
 abbrev pub end_of : Side → LinkKnown → EndKnown
 end_of User l = l.user
@@ -31,6 +39,7 @@ seen_from sender l = record {
   from = end_of sender l;
   to = end_of (other_side sender) l;
   establishments = l.establishments;
+  is_established = l.is_established;
 }
 
 -- the end of the user, and that of the network, if this side sent the last frame
@@ -49,6 +58,7 @@ with_exchange k sender x = record {
   user = user_of sender x;
   network = network_of sender x;
   establishments = x.establishments;
+  is_established = x.is_established;
 }
 
 -- one frame on the line
@@ -60,13 +70,21 @@ pub record Sighting : Type 0 where
 abbrev pub sighting : Packet → Side → Fields → Sighting
 sighting packet sender f = record { packet = packet; sender = sender; frame = f }
 
+-- the numbers of both ends are known
+abbrev pub is_followed : LinkKnown → Bool
+is_followed l = is_some l.user.numbering && is_some l.network.numbering
+
+-- both ends as the sender sees them, with what its frame teaches
+abbrev pub taught : Sighting → LinkKnown → Exchange
+taught s l = learns s.frame.control s.frame.address.role (seen_from s.sender l)
+
 -- the remarks on it
 abbrev pub said_of : Sighting → LinkKnown → Remarks
-said_of s l = remarks_on l.k s.packet s.frame (seen_from s.sender l)
+said_of s l = remarks_on l.k s.packet s.frame (taught s l)
 
 -- the link after it
 abbrev pub link_after : Sighting → LinkKnown → LinkKnown
-link_after s l = with_exchange l.k s.sender (known_after s.packet s.frame (seen_from s.sender l))
+link_after s l = with_exchange l.k s.sender (known_after s.packet s.frame (taught s l))
 
 -- the link after these frames, and the remarks on each
 abbrev pub known_after_all : List Sighting → LinkKnown → LinkKnown

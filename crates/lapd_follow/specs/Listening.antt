@@ -8,11 +8,11 @@ use Rattle.lapd_frame.specs.Frame.{Fields}
 use Rattle.lapd_frame.specs.Reading.{frame_at}
 use Rattle.lapd_follow.specs.declared.packet.Packet.{Packet}
 use Rattle.lapd_follow.specs.declared.remark.Remark.{Remark}
-use Rattle.lapd_follow.specs.declared.remark.Remark.TheVariants.{Begins}
+use Rattle.lapd_follow.specs.declared.remark.Remark.TheVariants.{Begins, NumbersKnown}
 use Rattle.lapd_follow.specs.declared.remarks.Remarks.{Remarks}
 use Rattle.lapd_follow.specs.declared.link_tally.LinkTally.{LinkTally}
 use Rattle.lapd_follow.specs.Ends.{one_more}
-use Rattle.lapd_follow.specs.Follower.{LineKnown, line_after, line_anew, new_line, place_of, said_on_line}
+use Rattle.lapd_follow.specs.Follower.{LineKnown, is_followed_on, line_after, line_anew, new_line, place_of, said_on_line}
 use Rattle.lapd_follow.specs.Link.{Sighting, sighting}
 use Rattle.lapd_follow.specs.Remarks.{has_violation}
 use Rattle.lapd_follow.specs.Tallies.{no_tally, tallied}
@@ -25,6 +25,7 @@ new_tally a = record {
   sapi = a.sapi;
   tei = a.tei;
   establishments = 0;
+  followed = None;
   user = no_tally;
   network = no_tally;
 }
@@ -34,15 +35,22 @@ abbrev pub establishments_after : Option Remark → ℕ → ℕ
 establishments_after (Some (Begins number)) before = one_more before
 establishments_after remark before = before
 
--- one more frame of this sender, with the remarks on it
-abbrev pub link_tallied : Side → Packet → Fields → Remarks → LinkTally → LinkTally
-link_tallied User packet f said t = record t {
+-- the packet from which a link was followed whose establishment was not seen
+abbrev pub followed_after : Packet → Option Remark → Option ℕ → Option ℕ
+followed_after packet (Some NumbersKnown) None = Some packet.number
+followed_after packet remark before = before
+
+-- one more frame of this sender, with the remarks on it; its link is followed or not
+abbrev pub link_tallied : Side → Packet → Fields → Remarks → Bool → LinkTally → LinkTally
+link_tallied User packet f said is_followed t = record t {
   establishments = establishments_after said.establishment t.establishments;
-  user = tallied packet f said t.user;
+  followed = followed_after packet said.establishment t.followed;
+  user = tallied packet f said is_followed t.user;
 }
-link_tallied Network packet f said t = record t {
+link_tallied Network packet f said is_followed t = record t {
   establishments = establishments_after said.establishment t.establishments;
-  network = tallied packet f said t.network;
+  followed = followed_after packet said.establishment t.followed;
+  network = tallied packet f said is_followed t.network;
 }
 
 -- ---- All links, each at its place.
@@ -54,10 +62,10 @@ tally_or_new a (Some None) = new_tally a
 tally_or_new a None = new_tally a
 
 -- one more frame; no other link changes
-abbrev pub tallied_on_line : Sighting → Remarks → List (Option LinkTally)
+abbrev pub tallied_on_line : Sighting → Remarks → Bool → List (Option LinkTally)
     → List (Option LinkTally)
-tallied_on_line s said all = set all (place_of s.frame.address)
-    (Some (link_tallied s.sender s.packet s.frame said
+tallied_on_line s said is_followed all = set all (place_of s.frame.address)
+    (Some (link_tallied s.sender s.packet s.frame said is_followed
     (tally_or_new s.frame.address (slice_get all (place_of s.frame.address)))))
 
 -- the line, the frames of each link, and whether a remark was a violation
@@ -78,7 +86,8 @@ new_listening k = record {
 abbrev pub with_frame : Sighting → Listening → Listening
 with_frame s l = record {
   line = line_after s l.line;
-  tallies = tallied_on_line s (said_on_line s l.line) l.tallies;
+  tallies = tallied_on_line s (said_on_line s l.line)
+      (is_followed_on s.frame.address l.line) l.tallies;
   is_violated = l.is_violated || has_violation (said_on_line s l.line);
 }
 

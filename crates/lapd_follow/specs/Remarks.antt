@@ -15,15 +15,17 @@ use Rattle.lapd_follow.specs.declared.end.Busy.TheVariants as busy
 use Rattle.lapd_follow.specs.declared.remark.Class.{Class}
 use Rattle.lapd_follow.specs.declared.remark.Class.TheVariants.{Normal, Recovery, Violation}
 use Rattle.lapd_follow.specs.declared.remark.Remark.{Remark}
-use Rattle.lapd_follow.specs.declared.remark.Remark.TheVariants.{Begins, LateUa, UaWithoutCommand, SentReleased, FirstNs, NsExpected, Repeated, RepeatedOtherwise, WindowExceeded, SentToBusy, SentToKnownBusy, NrOutside, SabmeWithoutP, DiscWithoutP, UaWithoutF, BeforeAnswer, Answers, LateResponse, ResponseWithoutPoll, NotAnswered, Manages, Unrequested, NotAutomatic, AssignedTwice, AssignedInUse, TwoResponses}
+use Rattle.lapd_follow.specs.declared.remark.Remark.TheVariants.{Begins, Ends, NumbersKnown, LateUa, UaWithoutCommand, SentReleased, FirstNs, NsExpected, Repeated, RepeatedOtherwise, WindowExceeded, SentToBusy, SentToKnownBusy, NrOutside, SabmeWithoutP, DiscWithoutP, UaWithoutF, BeforeAnswer, Answers, LateResponse, ResponseWithoutPoll, NotAnswered, Manages, Unrequested, NotAutomatic, AssignedTwice, AssignedInUse, TwoResponses}
 use Rattle.lapd_follow.specs.declared.remarks.Remarks.{Remarks}
 use Rattle.lapd_follow.specs.Ends.{EndKnown, one_more, from_end}
-use Rattle.lapd_follow.specs.Exchange.{Exchange, begins_establishment}
+use Rattle.lapd_follow.specs.Exchange.{Exchange, answers_disc, begins_establishment, is_learned}
 
 -- Normal: an undisturbed data link does this. Recovery: two ends that follow Q.921 do this only if
 -- frames are lost or late. Violation: two ends that follow Q.921 never do this.
 abbrev pub class_of : Remark → Class
 class_of (Begins n) = Normal
+class_of (Ends n) = Normal
+class_of NumbersKnown = Normal
 class_of LateUa = Recovery
 class_of UaWithoutCommand = Violation
 class_of SentReleased = Violation
@@ -59,29 +61,36 @@ abbrev pub is_violation : Option Remark → Bool
 is_violation None = false
 is_violation (Some remark) = is_violation_class (class_of remark)
 
--- ---- Establishment: of a UA (Q.921 5.5.1.2, 5.5.3.2), and of an I or S frame (5.5.4).
+-- ---- Establishment: of a UA or DM (Q.921 5.5.1.2, 5.5.3.2), and of an I or S frame (5.5.4).
 
 -- a UA is sent for a SABME or DISC alone
 abbrev pub unexpected_ua : Polls → Remark
 unexpected_ua commands = if commands.complete && (commands.unanswered == 0)
     then UaWithoutCommand else LateUa
 
+-- a frame that releases a link, if that is known to be established
+abbrev pub ended : Bool → Exchange → Option Remark
+ended is_release x = if is_release && x.is_established then Some (Ends x.establishments) else None
+
 abbrev pub ua_remark : Exchange → Option Remark
 ua_remark x = if is_some x.to.commands.last
-    then (if begins_establishment x then Some (Begins (one_more x.establishments)) else None)
+    then (if begins_establishment x then Some (Begins (one_more x.establishments))
+    else ended (answers_disc x.to) x)
     else Some (unexpected_ua x.to.commands)
 
--- an end whose link is released sends no I or S frame
-abbrev pub sent_released : Bool → Option Remark
-sent_released false = None
-sent_released true = Some SentReleased
+-- An end whose link is released sends no I or S frame. The frame that shows the last of the numbers
+-- is the first that is followed.
+abbrev pub sent_remark : Exchange → Option Remark
+sent_remark x = if x.from.is_released then Some SentReleased
+    else (if is_learned x then Some NumbersKnown else None)
 
 abbrev pub establishment_remark : Control → Exchange → Option Remark
-establishment_remark (I ns nr p) x = sent_released x.from.is_released
-establishment_remark (Rr nr pf) x = sent_released x.from.is_released
-establishment_remark (Rnr nr pf) x = sent_released x.from.is_released
-establishment_remark (Rej nr pf) x = sent_released x.from.is_released
+establishment_remark (I ns nr p) x = sent_remark x
+establishment_remark (Rr nr pf) x = sent_remark x
+establishment_remark (Rnr nr pf) x = sent_remark x
+establishment_remark (Rej nr pf) x = sent_remark x
 establishment_remark (Ua f) x = ua_remark x
+establishment_remark (Dm f) x = ended true x
 establishment_remark control x = None
 
 -- ---- N(S): of an I frame, if the numbers of both ends are known (Q.921 3.5.2.4, 5.6.1, 5.6.4).

@@ -1,6 +1,6 @@
 -- How many frames of each kind one end of a link sent, how soon it answered polls, and how long it
 -- was busy.
-use Rattle.std.specs.Prelude.{ℕ, min, max, Bool, true, false, if◌then◌else◌, List, [], ◌∷◌, length, replicate, Option, Some, None}
+use Rattle.std.specs.Prelude.{ℕ, min, max, Bool, true, false, if◌then◌else◌, List, [], ◌∷◌, length, not, replicate, Option, Some, None}
 use Rattle.lapd_frame.specs.declared.Role.{Role}
 use Rattle.lapd_frame.specs.declared.Role.TheVariants.{Command, Answer}
 use Rattle.lapd_frame.specs.declared.Control.{Control}
@@ -48,6 +48,7 @@ no_tally = record {
   kinds = no_kinds;
   octets = 0;
   repeated = 0;
+  unfollowed = 0;
   polls = 0;
   times = no_times;
   busy = no_busy_time;
@@ -107,6 +108,11 @@ with_times (n ∷ rest) t = with_times rest (with_time (Some n) t)
 abbrev pub middle_of : Times → Option Middle
 middle_of t = middle_within (middle_class t.classes) t.least t.greatest
 
+-- an I frame of which is not known whether it is sent again
+abbrev pub is_unfollowed : Bool → Control → Bool
+is_unfollowed is_followed (I ns nr p) = not is_followed
+is_unfollowed is_followed control = false
+
 -- the P bit of a command that polls, or the bit in its place (Q.921 3.5.1)
 abbrev pub poll_bit : Control → Bool
 poll_bit (I ns nr p) = p
@@ -122,12 +128,14 @@ abbrev pub is_poll : Role → Control → Bool
 is_poll Command control = poll_bit control
 is_poll Answer control = false
 
--- one more frame, in this packet, with the remarks on it
-abbrev pub tallied : Packet → Fields → Remarks → Tally → Tally
-tallied packet f said t = record {
+-- one more frame, in this packet, with the remarks on it; its link is followed or not
+abbrev pub tallied : Packet → Fields → Remarks → Bool → Tally → Tally
+tallied packet f said is_followed t = record {
   kinds = counted f.control t.kinds;
   octets = sum_of t.octets (length f.info);
   repeated = if is_repeat said.ns then one_more t.repeated else t.repeated;
+  unfollowed = if is_unfollowed is_followed f.control then one_more t.unfollowed
+      else t.unfollowed;
   polls = if is_poll f.address.role f.control then one_more t.polls else t.polls;
   times = with_time (answer_time said.answer) t.times;
   busy = busy_after f.control packet.moment t.busy;

@@ -7,7 +7,7 @@ use Rattle.lapd_follow.specs.declared.identity.Identity.TheVariants.{Request, As
 use Rattle.lapd_follow.specs.declared.remark.Class.{Class}
 use Rattle.lapd_follow.specs.declared.remark.Class.TheVariants.{Normal, Recovery, Violation}
 use Rattle.lapd_follow.specs.declared.remark.Remark.{Remark}
-use Rattle.lapd_follow.specs.declared.remark.Remark.TheVariants.{Begins, LateUa, UaWithoutCommand, SentReleased, FirstNs, NsExpected, Repeated, RepeatedOtherwise, WindowExceeded, SentToBusy, SentToKnownBusy, NrOutside, SabmeWithoutP, DiscWithoutP, UaWithoutF, BeforeAnswer, Answers, LateResponse, ResponseWithoutPoll, NotAnswered, Manages, Unrequested, NotAutomatic, AssignedTwice, AssignedInUse, TwoResponses}
+use Rattle.lapd_follow.specs.declared.remark.Remark.TheVariants.{Begins, Ends, NumbersKnown, LateUa, UaWithoutCommand, SentReleased, FirstNs, NsExpected, Repeated, RepeatedOtherwise, WindowExceeded, SentToBusy, SentToKnownBusy, NrOutside, SabmeWithoutP, DiscWithoutP, UaWithoutF, BeforeAnswer, Answers, LateResponse, ResponseWithoutPoll, NotAnswered, Manages, Unrequested, NotAutomatic, AssignedTwice, AssignedInUse, TwoResponses}
 use Rattle.lapd_follow.specs.declared.remarks.Remarks.{Remarks}
 use Rattle.lapd_follow.specs.Remarks.{class_of}
 
@@ -29,6 +29,8 @@ identity_clause (Verify tei) = codes "5.3.5"
 -- the clause of Q.921 on which a remark depends
 abbrev pub clause_of : Remark → List ℕ
 clause_of (Begins n) = codes "5.5.1.2"
+clause_of (Ends n) = codes "5.5.3.2"
+clause_of NumbersKnown = codes "3.5.2"
 clause_of LateUa = codes "5.5.1.3"
 clause_of UaWithoutCommand = codes "3.6.8"
 clause_of SentReleased = codes "5.5.4"
@@ -91,8 +93,15 @@ abbrev pub assignment_text : ℕ → ℕ → List ℕ
 assignment_text tei ri = codes "TEI " ++ (decimal tei
     ++ (codes " is already assigned to reference " ++ reference_digits ri))
 
+-- the end of an establishment, which is 0 if it began before its first frame was seen
+abbrev pub ended_text : ℕ → List ℕ
+ended_text n = if n == 0 then codes "ends the establishment"
+    else (codes "ends establishment " ++ decimal n)
+
 abbrev pub remark_text : Remark → List ℕ
 remark_text (Begins n) = codes "begins establishment " ++ decimal n
+remark_text (Ends n) = ended_text n
+remark_text NumbersKnown = codes "numbers known from here on"
 remark_text LateUa = codes "answers an earlier SABME or DISC"
 remark_text UaWithoutCommand = codes "UA without SABME or DISC"
 remark_text SentReleased = codes "sent on a released link"

@@ -117,3 +117,31 @@ abbrev pub collision : List Sent
 collision = established ++ message User 0 0 5 ∷ command User (Sabme true)
     ∷ response Network (Rr 1 false) ∷ command Network (Sabme true) ∷ response User (Ua true)
     ∷ response Network (Ua true) ∷ message User 0 0 7 ∷ response Network (Rr 1 false) ∷ []
+
+-- The capture begins on an established link. The numbers of each end are learned from an I frame and
+-- its acknowledgement; then an N(R) acknowledges more than was sent.
+abbrev pub from_messages : List Sent
+from_messages = message User 5 3 1 ∷ response Network (Rr 6 false) ∷ message Network 3 6 2
+    ∷ response User (Rr 4 false) ∷ message User 6 4 3 ∷ response Network (Rr 8 false) ∷ []
+
+-- They are learned from the answers to polls; then an I frame is sent again.
+abbrev pub from_polls : List Sent
+from_polls = command User (Rr 3 true) ∷ response Network (Rr 6 true) ∷ command Network (Rr 6 true)
+    ∷ response User (Rr 3 true) ∷ message User 6 3 1 ∷ message User 6 3 1 ∷ []
+
+-- An I frame alone shows nothing, nor does an N(R) that does not acknowledge it: so nothing is said
+-- of the next ones.
+abbrev pub from_doubts : List Sent
+from_doubts = message User 5 3 1 ∷ message Network 3 5 2 ∷ message User 5 3 1
+    ∷ response Network (Rr 9 false) ∷ response User (Rr 4 false) ∷ message User 8 4 3 ∷ []
+
+-- The user asks by its last I frame with P=1, which the network may have received before.
+abbrev pub from_enquiry : List Sent
+from_enquiry = record (message User 5 3 1) { control = I 5 3 true } ∷ response Network (Rr 6 false)
+    ∷ message Network 3 6 2 ∷ response User (Rr 4 false) ∷ response Network (Rr 6 true) ∷ []
+
+-- the numbers are learned, and then the user disconnects
+abbrev pub from_messages_to_release : List Sent
+from_messages_to_release = message User 5 3 1 ∷ response Network (Rr 6 false)
+    ∷ message Network 3 6 2 ∷ response User (Rr 4 false) ∷ command User (Disc true)
+    ∷ response Network (Ua true) ∷ response Network (Dm false) ∷ []

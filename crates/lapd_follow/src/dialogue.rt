@@ -1,5 +1,5 @@
 ghost use Rattle.std.specs.Prelude.{◌≡◌, IfOk};
-ghost use Rattle.lapd_follow.specs.Exchange.{Exchange, turned, sender_begins, commands, disconnects, begins_establishment, accepts, accepts_late, acknowledges_mode, takes_nr, polls, sends, answers, poll_or_final, answers_only_poll, busy_if, busy_after_rnr, reports, supervises, after_control};
+ghost use Rattle.lapd_follow.specs.Exchange.{Exchange, turned, sender_begins, commands, disconnects, begins_establishment, accepts, accepts_late, acknowledges_mode, takes_nr, polls, sends, answers, poll_or_final, answers_only_poll, busy_if, busy_after_rnr, reports, supervises, after_control, learns_ns, learns_nr, learns_from, is_unnumbered, learns, is_learned, numbered, numbered_if_learned};
 
 use crate::end::{Busy, End};
 use crate::numbering::{counter, is_valid_nr};
@@ -14,6 +14,8 @@ pub(crate) struct Dialogue {
     pub(crate) from: End,
     pub(crate) to: End,
     pub(crate) establishments: u64,
+    /// Whether the last one is known to last.
+    pub(crate) is_established: bool,
 }
 
 impl Model for Dialogue {
@@ -21,7 +23,12 @@ impl Model for Dialogue {
 
     ghost Value = { Exchange };
 
-    ghost view = { λ d. record { from = d.from; to = d.to; establishments = d.establishments } };
+    ghost view = { λ d. record {
+      from = d.from;
+      to = d.to;
+      establishments = d.establishments;
+      is_established = d.is_established;
+    } };
 }
 
 /// A change of the sender.
@@ -68,6 +75,7 @@ impl Dialogue {
     {
         self.begin();
         self.from.set_released(true);
+        self.is_established = false;
         if f {
             self.to.take_command_answer();
         }
@@ -84,10 +92,12 @@ impl Dialogue {
     fn accept(&mut self)
         ensures { self.new ≡ accepts self.old }
     {
-        if self.begins_establishment() {
+        let is_beginning = self.begins_establishment();
+        if is_beginning {
             self.establishments = self.establishments.saturating_add(1);
         }
         let is_release = self.to.awaits_release();
+        self.is_established = !is_release && (is_beginning || self.is_established);
         self.from.begin();
         self.from.end_polls();
         self.from.set_released(is_release);
@@ -198,11 +208,98 @@ impl Dialogue {
     }
 }
 
+/// Numbers that are learned.
+#[tactic(auto, unfolding(crate::specs::Exchange::learns_ns, crate::specs::Exchange::learns_nr, crate::specs::Exchange::learns, crate::specs::Exchange::numbered, crate::specs::Exchange::numbered_if_learned))]
+impl Dialogue {
+    /// Learns from an N(S) and a P bit.
+    fn learn_ns(&mut self, ns: Number, p: bool)
+        ensures { self.new ≡ learns_ns ns p self.old }
+    {
+        let learned = self.from.learned.with_ns(counter(ns), p);
+        self.from.learn(learned);
+    }
+
+    /// Learns from an N(R), in a frame that answers the only open poll or not.
+    fn learn_nr(&mut self, is_answer: bool, nr: Number)
+        ensures { self.new ≡ learns_nr is_answer nr self.old }
+    {
+        let learned = self.to.learned.with_response(is_answer, counter(nr));
+        self.to.learn(learned);
+    }
+
+    fn learn_from(&mut self, control: &Control, role: Role)
+        ensures { self.new ≡ learns_from control.now role self.old }
+    {
+        match *control {
+            Control::I { ns, nr, p } => {
+                self.learn_nr(false, nr);
+                self.learn_ns(ns, p);
+            }
+            Control::Rr { nr, pf } | Control::Rnr { nr, pf } | Control::Rej { nr, pf } => {
+                let is_answer = answers_only_poll(role, pf, self.to.polls);
+                self.learn_nr(is_answer, nr);
+            }
+            _ => {}
+        }
+    }
+
+    /// Whether the numbers of neither end are known.
+    fn is_unnumbered(&self) -> bool
+        ensures { result ≡ is_unnumbered self.now }
+    {
+        !(self.from.numbering.is_some() || self.to.numbering.is_some())
+    }
+
+    /// Learns from a frame, while the numbers of neither end are known.
+    pub(crate) fn learn(&mut self, control: &Control, role: Role)
+        ensures { self.new ≡ learns control.now role self.old }
+    {
+        if self.is_unnumbered() {
+            self.learn_from(control, role);
+        }
+    }
+
+    /// Whether the numbers of both ends are learned, and are not yet used.
+    pub(crate) fn is_learned(&self) -> bool
+        ensures { result ≡ is_learned self.now }
+    {
+        self.is_unnumbered() && self.from.learned.numbering(self.to.learned).is_some()
+    }
+
+    /// Follows the link by the numbers that are learned.
+    fn number(&mut self)
+        ensures { self.new ≡ numbered self.old }
+    {
+        let from = self.from.learned.numbering(self.to.learned);
+        let to = self.to.learned.numbering(self.from.learned);
+        self.from.number(from);
+        self.to.number(to);
+        self.is_established = true;
+    }
+
+    fn number_if_learned(&mut self)
+        ensures { self.new ≡ numbered_if_learned self.old }
+    {
+        if self.is_learned() {
+            self.number();
+        }
+    }
+}
+
 /// Each frame.
 #[tactic(auto)]
 impl Dialogue {
-    /// Takes a frame with this control field and role. `octets` are the information of an I frame.
+    /// Takes a frame from which it has learned. `octets` are the information of an I frame.
     pub(crate) fn take(&mut self, control: &Control, role: Role, octets: Vec<u8>, packet: Packet)
+        ensures { self.new ≡ numbered_if_learned
+            (after_control control.now role octets.items packet self.old) }
+    {
+        self.take_control(control, role, octets, packet);
+        self.number_if_learned();
+    }
+
+    /// Takes a frame with this control field and role.
+    fn take_control(&mut self, control: &Control, role: Role, octets: Vec<u8>, packet: Packet)
         ensures { self.new ≡ after_control control.now role octets.items packet self.old }
     {
         match *control {

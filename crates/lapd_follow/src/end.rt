@@ -1,7 +1,8 @@
 ghost use Rattle.std.specs.Prelude.{◌≡◌, IfOk};
-ghost use Rattle.lapd_follow.specs.Ends.{EndKnown, new_end, begun, unnumbered, with_release, with_busy, has_polled, poll_answered, polls_ended, has_commanded, command_answered, commands_ended, has_sent, has_acknowledged, is_acknowledged, keep_last};
+ghost use Rattle.lapd_follow.specs.Ends.{EndKnown, new_end, begun, unnumbered, with_learned, with_numbering, with_release, with_busy, has_polled, poll_answered, polls_ended, has_commanded, command_answered, commands_ended, has_sent, has_acknowledged, is_acknowledged, keep_last};
 ghost use Rattle.lapd_follow.specs.Exchange.{answered, answers_disc, awaits_ua};
 
+use crate::learned::Learned;
 use crate::numbering::{first_numbering, is_next, left_after, with_nr, with_ns};
 use crate::unacknowledged::Unacknowledged;
 use crate::{Numbering, Packet, Polls};
@@ -24,6 +25,7 @@ pub enum Busy {
 #[derive(Drop)]
 pub(crate) struct End {
     pub(crate) numbering: Option<Numbering>,
+    pub(crate) learned: Learned,
     pub(crate) unacknowledged: Unacknowledged,
     pub(crate) busy: Busy,
     pub(crate) polls: Polls,
@@ -44,6 +46,7 @@ impl Model for End {
 
     ghost view = { λ e. record {
       numbering = e.numbering;
+      learned = e.learned;
       unacknowledged = e.unacknowledged;
       busy = e.busy;
       polls = e.polls;
@@ -56,7 +59,7 @@ impl Model for End {
 }
 
 /// A new end, and its establishments.
-#[tactic(auto, unfolding(crate::specs::Ends::new_end, crate::specs::Ends::begun, crate::specs::Ends::unnumbered, crate::specs::Ends::with_release, crate::specs::Ends::with_busy))]
+#[tactic(auto, unfolding(crate::specs::Ends::new_end, crate::specs::Ends::begun, crate::specs::Ends::unnumbered, crate::specs::Ends::with_learned, crate::specs::Ends::with_numbering, crate::specs::Ends::with_release, crate::specs::Ends::with_busy))]
 impl End {
     /// An end of which nothing was seen.
     pub(crate) fn new(alloc: Global) -> Result<End, AllocError>
@@ -64,6 +67,7 @@ impl End {
     {
         Ok(End {
             numbering: None,
+            learned: Learned::Nothing,
             unacknowledged: Unacknowledged::new(alloc)?,
             busy: Busy::Free,
             polls: Polls::unseen(),
@@ -93,6 +97,20 @@ impl End {
         self.unacknowledged.clear();
         self.busy = Busy::Free;
         self.awaited = None;
+    }
+
+    /// Its numbers are these.
+    pub(crate) fn number(&mut self, numbering: Option<Numbering>)
+        ensures { self.new ≡ with_numbering numbering self.old }
+    {
+        self.numbering = numbering;
+    }
+
+    /// This is learned of its numbers.
+    pub(crate) fn learn(&mut self, learned: Learned)
+        ensures { self.new ≡ with_learned learned self.old }
+    {
+        self.learned = learned;
     }
 
     /// Its link is released, or not.

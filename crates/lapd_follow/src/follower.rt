@@ -1,6 +1,6 @@
 ghost use Rattle.std.specs.Prelude.{◌≡◌, IfOk, OnOk, OnErr, option_copied, slice_get};
 ghost use Rattle.lapd_follow.specs.Link.{sighting};
-ghost use Rattle.lapd_follow.specs.Follower.{line_after, line_anew, line_with_message, managed, new_line, place_of, said_on_line, seen_link};
+ghost use Rattle.lapd_follow.specs.Follower.{is_followed_on, line_after, line_anew, line_with_message, managed, new_line, place_of, said_on_line, seen_link};
 
 use crate::identity::identity_of;
 use crate::link_table::LinkTable;
@@ -104,6 +104,16 @@ impl Follower {
     {
         self.links.forget_all();
         self.teis = Teis::new();
+    }
+
+    /// Whether the numbers of both ends of the link with this address are known.
+    pub(crate) fn is_followed(&self, address: &Address) -> bool
+        ensures { result ≡ is_followed_on address.now self.now }
+    {
+        match self.links.link(address) {
+            None => false,
+            Some(link) => link.is_followed(),
+        }
     }
 
     /// The link of frames with this address, if one was seen. A link whose TEI was assigned or

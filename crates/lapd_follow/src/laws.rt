@@ -3,12 +3,12 @@
 ghost use Rattle.std.specs.Prelude.{◌≡◌, ◌<◌, ◌^◌, ℕ, true, false, List, [], ◌∷◌, length, nat_le, nat_lt, Some, None};
 ghost use Rattle.std.specs.List.{All};
 ghost use Rattle.lapd_follow.specs.declared.identity.Identity.TheVariants.{Request, Assigned, Denied, CheckRequest, CheckResponse, Remove, Verify};
-ghost use Rattle.lapd_follow.specs.declared.remark.Remark.TheVariants.{Begins, UaWithoutCommand, SentReleased, NsExpected, Repeated, RepeatedOtherwise, WindowExceeded, SentToBusy, SentToKnownBusy, NrOutside, SabmeWithoutP, DiscWithoutP, UaWithoutF, BeforeAnswer, Answers, ResponseWithoutPoll, NotAnswered, Unrequested, NotAutomatic, AssignedTwice, AssignedInUse, TwoResponses};
+ghost use Rattle.lapd_follow.specs.declared.remark.Remark.TheVariants.{Begins, Ends, NumbersKnown, UaWithoutCommand, SentReleased, NsExpected, Repeated, RepeatedOtherwise, WindowExceeded, SentToBusy, SentToKnownBusy, NrOutside, SabmeWithoutP, DiscWithoutP, UaWithoutF, BeforeAnswer, Answers, ResponseWithoutPoll, NotAnswered, Unrequested, NotAutomatic, AssignedTwice, AssignedInUse, TwoResponses};
 ghost use Rattle.lapd_follow.specs.declared.classes.Middle.{Middle};
 ghost use Rattle.lapd_follow.specs.Remarks.{k_or_most, window_remark};
 ghost use Rattle.lapd_follow.specs.Classes.{Halve, IsNarrow, class_of, middle_class};
 ghost use Rattle.lapd_follow.specs.Tallies.{middle_of, no_times, with_times};
-ghost use Rattle.lapd_follow.specs.Worked.{told, undisturbed, vr_not_reset, sent_again, without_cause, to_busy, four_messages, to_released, without_bits, before_answers, collision};
+ghost use Rattle.lapd_follow.specs.Worked.{told, undisturbed, vr_not_reset, sent_again, without_cause, to_busy, four_messages, to_released, without_bits, before_answers, collision, from_messages, from_polls, from_doubts, from_enquiry, from_messages_to_release};
 ghost use Rattle.lapd_follow.specs.WorkedTeis.{notes, said, said_but, assignment, checks, assigned_twice, assigned_below, assigned_anew};
 
 /// Worked dialogues have the expected remarks. They are only establishments and answers on an
@@ -31,8 +31,8 @@ pub fn remarks_are_computed()
         (Some (record { is_first = false; next = 127; nr = 0 }))
         (Some (record { is_first = true; next = 0; nr = 0 })) ≡ Some (WindowExceeded 127) }
     ensures released { told to_released ≡ [] ∷ (Begins 1 ∷ Answers 1 (Some 1000) ∷ []) ∷ []
-        ∷ (Answers 3 (Some 1000) ∷ []) ∷ (SentReleased ∷ []) ∷ (SentReleased ∷ []) ∷ []
-        ∷ (Begins 2 ∷ Answers 7 (Some 1000) ∷ []) ∷ [] ∷ [] ∷ (SentReleased ∷ []) ∷ [] }
+        ∷ (Ends 1 ∷ Answers 3 (Some 1000) ∷ []) ∷ (SentReleased ∷ []) ∷ (SentReleased ∷ []) ∷ []
+        ∷ (Begins 2 ∷ Answers 7 (Some 1000) ∷ []) ∷ [] ∷ (Ends 2 ∷ []) ∷ (SentReleased ∷ []) ∷ [] }
     ensures bits { told without_bits ≡ (SabmeWithoutP ∷ [])
         ∷ (Begins 1 ∷ Answers 1 (Some 1000) ∷ []) ∷ []
         ∷ (Begins 2 ∷ UaWithoutF ∷ Answers 3 (Some 1000) ∷ []) ∷ (DiscWithoutP ∷ []) ∷ [] }
@@ -42,6 +42,15 @@ pub fn remarks_are_computed()
     ensures collision { told collision ≡ [] ∷ (Begins 1 ∷ Answers 1 (Some 1000) ∷ []) ∷ [] ∷ []
         ∷ [] ∷ [] ∷ (Answers 6 (Some 1000) ∷ []) ∷ (Begins 2 ∷ Answers 4 (Some 4000) ∷ []) ∷ []
         ∷ [] ∷ [] }
+    ensures from_messages { told from_messages ≡ [] ∷ [] ∷ [] ∷ (NumbersKnown ∷ []) ∷ []
+        ∷ (NrOutside 8 6 7 ∷ []) ∷ [] }
+    ensures from_polls { told from_polls ≡ [] ∷ (Answers 1 (Some 1000) ∷ []) ∷ []
+        ∷ (NumbersKnown ∷ Answers 3 (Some 1000) ∷ []) ∷ [] ∷ (Repeated ∷ []) ∷ [] }
+    ensures from_doubts { told from_doubts ≡ [] ∷ [] ∷ [] ∷ [] ∷ [] ∷ [] ∷ [] }
+    ensures from_enquiry { told from_enquiry ≡ [] ∷ [] ∷ [] ∷ []
+        ∷ (NumbersKnown ∷ Answers 1 (Some 4000) ∷ []) ∷ [] }
+    ensures from_messages_to_release { told from_messages_to_release ≡ [] ∷ [] ∷ []
+        ∷ (NumbersKnown ∷ []) ∷ [] ∷ (Ends 0 ∷ Answers 5 (Some 1000) ∷ []) ∷ [] ∷ [] }
 {}
 
 /// Worked TEI messages have the expected remarks. Each message of an assignment and of a check has

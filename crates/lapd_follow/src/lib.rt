@@ -18,6 +18,8 @@ mod follower;
 mod holder;
 mod identity;
 mod laws;
+mod learned;
+mod learning_laws;
 mod link_follower;
 mod link_table;
 mod link_tally;
@@ -41,6 +43,10 @@ pub use follower::Follower;
 pub use identity::Identity;
 pub use laws::{
     identities_are_computed, middle_is_between, middles_are_computed, remarks_are_computed,
+};
+pub use learning_laws::{
+    known_numbers_give_no_violation, learned_links_are_in_step,
+    learned_numbers_are_those_of_the_ends, premises_of_learning_are_needed,
 };
 pub use link_follower::LinkFollower;
 pub use link_tally::LinkTally;

@@ -1,6 +1,6 @@
 ghost use Rattle.std.specs.Prelude.{◌≡◌, IfOk, OnOk, OnErr};
 ghost use Rattle.lapd_follow.specs.Exchange.{kept_octets};
-ghost use Rattle.lapd_follow.specs.Link.{sighting, new_link, end_of, said_of, link_after};
+ghost use Rattle.lapd_follow.specs.Link.{sighting, new_link, end_of, is_followed, said_of, link_after};
 
 use crate::dialogue::Dialogue;
 use crate::end::End;
@@ -42,6 +42,7 @@ impl LinkFollower {
                 from: End::new(alloc)?,
                 to: End::new(alloc)?,
                 establishments: 0,
+                is_established: false,
             },
             sender: Side::User,
         })
@@ -87,6 +88,7 @@ impl LinkFollower {
         let octets = kept_octets(self.alloc, frame)?;
         self.dialogue.turn(self.sender, sender);
         self.sender = sender;
+        self.dialogue.learn(&frame.control(), frame.address().role);
         put_remarks(self.k, packet, frame, &self.dialogue, said);
         self.dialogue
             .take(&frame.control(), frame.address().role, octets, packet);
@@ -119,6 +121,20 @@ impl LinkFollower {
         ensures { result ≡ (end_of side self.now).numbering }
     {
         self.end(side).numbering
+    }
+
+    /// Whether the numbers of both sides are known.
+    pub fn is_followed(&self) -> bool
+        ensures { result ≡ is_followed self.now }
+    {
+        self.numbering(Side::User).is_some() && self.numbering(Side::Network).is_some()
+    }
+
+    /// Whether this side has released the link, and sends no I or S frame.
+    pub fn is_released(&self, side: Side) -> bool
+        ensures { result ≡ (end_of side self.now).is_released }
+    {
+        self.end(side).is_released
     }
 
     /// The busy condition of this side, as it reported it.

@@ -1,5 +1,5 @@
 ghost use Rattle.std.specs.Prelude.{◌≡◌};
-ghost use Rattle.lapd_follow.specs.Listening.{establishments_after, link_tallied, new_tally};
+ghost use Rattle.lapd_follow.specs.Listening.{establishments_after, followed_after, link_tallied, new_tally};
 
 use crate::{Packet, Remark, Remarks, Tally};
 use lapd_frame::{Address, Frame, Sapi, Side, Tei};
@@ -13,6 +13,9 @@ pub struct LinkTally {
     pub tei: Tei,
     /// How many establishments began.
     pub establishments: u64,
+    /// The packet from which the link was followed, if its establishment was not seen and its
+    /// numbers were learned.
+    pub followed: Option<u64>,
     /// The frames that the user side sent.
     pub user: Tally,
     /// The frames that the network side sent.
@@ -28,20 +31,40 @@ impl LinkTally {
             sapi: address.sapi,
             tei: address.tei,
             establishments: 0,
+            followed: None,
             user: Tally::new(),
             network: Tally::new(),
         }
     }
 
-    /// Counts one more frame, with the remarks on it.
-    pub(crate) fn add(&mut self, packet: Packet, sender: Side, frame: &Frame<'_>, said: &Remarks)
-        ensures { self.new ≡ link_tallied sender packet frame.now said.now self.old }
+    /// Counts one more frame, with the remarks on it; its link is followed or not.
+    pub(crate) fn add(
+        &mut self,
+        packet: Packet,
+        sender: Side,
+        frame: &Frame<'_>,
+        said: &Remarks,
+        is_followed: bool,
+    )
+        ensures { self.new ≡ link_tallied sender packet frame.now said.now is_followed self.old }
     {
+        self.followed = followed_after(packet, &said.establishment, self.followed);
         self.establishments = establishments_after(&said.establishment, self.establishments);
         match sender {
-            Side::User => self.user.add(packet, frame, said),
-            Side::Network => self.network.add(packet, frame, said),
+            Side::User => self.user.add(packet, frame, said, is_followed),
+            Side::Network => self.network.add(packet, frame, said, is_followed),
         }
+    }
+}
+
+/// The packet from which the link was followed, after a frame in this packet with this remark on
+/// establishment.
+fn followed_after(packet: Packet, remark: &Option<Remark>, before: Option<u64>) -> Option<u64>
+    ensures { result ≡ followed_after packet remark.now before }
+{
+    match (remark, before) {
+        (Some(Remark::NumbersKnown), None) => Some(packet.number),
+        _ => before,
     }
 }
 

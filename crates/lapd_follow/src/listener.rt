@@ -36,19 +36,27 @@ impl Tallies {
         })
     }
 
-    /// Counts a frame of its link.
-    fn add(&mut self, packet: Packet, sender: Side, frame: &Frame<'_>, said: &Remarks)
-        ensures { self.new ≡ tallied_on_line (sighting packet sender frame.now) said.now self.old }
+    /// Counts a frame of its link, which is followed or not.
+    fn add(
+        &mut self,
+        packet: Packet,
+        sender: Side,
+        frame: &Frame<'_>,
+        said: &Remarks,
+        is_followed: bool,
+    )
+        ensures { self.new ≡ tallied_on_line (sighting packet sender frame.now) said.now is_followed
+            self.old }
     {
         let address = frame.address();
         let Some(slot) = self.links.get_mut(place_of(&address)) else {
             unreachable!()
         };
         match slot {
-            Some(link) => link.add(packet, sender, frame, said),
+            Some(link) => link.add(packet, sender, frame, said, is_followed),
             None => {
                 let mut link = LinkTally::new(&address);
-                link.add(packet, sender, frame, said);
+                link.add(packet, sender, frame, said, is_followed);
                 *slot = Some(link);
             }
         }
@@ -148,8 +156,9 @@ impl Listener {
         ensures unchanged { OnErr result (self.new ≡ self.old) }
         ensures no_remarks { OnErr result (said.new ≡ said.old) }
     {
+        let is_followed = self.follower.is_followed(&frame.address());
         self.follower.frame_into(packet, sender, frame, said)?;
-        self.tallies.add(packet, sender, frame, said);
+        self.tallies.add(packet, sender, frame, said, is_followed);
         self.is_violated = self.is_violated || said.has_violation();
         Ok(())
     }

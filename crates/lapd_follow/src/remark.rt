@@ -1,6 +1,6 @@
 ghost use Rattle.std.specs.Prelude.{◌≡◌, Some};
 ghost use Rattle.lapd_follow.specs.Remarks.{class_of};
-ghost use Rattle.lapd_follow.specs.Texts.{assignment_text, class_name, clause_of, remark_text};
+ghost use Rattle.lapd_follow.specs.Texts.{assignment_text, class_name, clause_of, ended_text, remark_text};
 
 use crate::Identity;
 use crate::reference::Reference;
@@ -38,6 +38,12 @@ impl Class {
 pub enum Remark {
     /// The UA begins the establishment with this number (Q.921 5.5.1.2).
     Begins(u64),
+    /// The UA or DM ends the establishment with this number, or 0 if that began before its first
+    /// frame was seen (Q.921 5.5.3.2).
+    Ends(u64),
+    /// The frame shows the last of the numbers of both ends of a link that was established before
+    /// its first frame was seen (Q.921 3.5.2).
+    NumbersKnown,
     /// The UA answers an earlier SABME or DISC, or one that was not seen.
     LateUa,
     /// The frame is a UA, but every SABME and DISC is answered (Q.921 3.6.8).
@@ -128,7 +134,11 @@ impl Remark {
         ensures { result ≡ class_of self.now }
     {
         match *self {
-            Remark::Begins(_) | Remark::Answers { .. } | Remark::Manages(_) => Class::Normal,
+            Remark::Begins(_)
+            | Remark::Ends(_)
+            | Remark::NumbersKnown
+            | Remark::Answers { .. }
+            | Remark::Manages(_) => Class::Normal,
             Remark::LateUa
             | Remark::FirstNs(_)
             | Remark::NsExpected { .. }
@@ -161,6 +171,8 @@ impl Remark {
     {
         match *self {
             Remark::Begins(_) => "5.5.1.2",
+            Remark::Ends(_) => "5.5.3.2",
+            Remark::NumbersKnown => "3.5.2",
             Remark::LateUa => "5.5.1.3",
             Remark::UaWithoutCommand => "3.6.8",
             Remark::SentReleased => "5.5.4",
@@ -196,6 +208,11 @@ impl fmt::Display for Remark {
     fn fmt<W: fmt::Write>(&self, f: &mut fmt::Formatter<W>) -> fmt::Result {
         match *self {
             Remark::Begins(number) => write!(f, "begins establishment {number}"),
+            Remark::Ends(number) => {
+                let ended = Ended { number };
+                write!(f, "{ended}")
+            }
+            Remark::NumbersKnown => write!(f, "numbers known from here on"),
             Remark::LateUa => write!(f, "answers an earlier SABME or DISC"),
             Remark::UaWithoutCommand => write!(f, "UA without SABME or DISC"),
             Remark::SentReleased => write!(f, "sent on a released link"),
@@ -263,6 +280,25 @@ impl fmt::Display for Remark {
                     "two terminals answer the check of TEI {tei}, references {first} and {second}"
                 )
             }
+        }
+    }
+}
+
+/// The end of an establishment.
+#[derive(Clone, Copy)]
+struct Ended {
+    number: u64,
+}
+
+impl fmt::Display for Ended {
+    ghost output = { λ ended. Some (ended_text ended.number) };
+
+    fn fmt<W: fmt::Write>(&self, f: &mut fmt::Formatter<W>) -> fmt::Result {
+        let number = self.number;
+        if number == 0 {
+            write!(f, "ends the establishment")
+        } else {
+            write!(f, "ends establishment {number}")
         }
     }
 }

@@ -3,7 +3,7 @@ ghost use Rattle.std.specs.Fmt.{DisplaysOnOk};
 ghost use Rattle.lapd_frame.specs.Reading.{is_command};
 ghost use Rattle.lapd_follow.specs.Exchange.{Exchange};
 ghost use Rattle.lapd_follow.specs.Listening.{no_remarks};
-ghost use Rattle.lapd_follow.specs.Remarks.{unexpected_ua, ua_remark, sent_released, establishment_remark, repeated, out_of_sequence, ns_remark, is_in_window, k_or_most, window_remark, sent_to_busy, nr_remark, without_p, ua_bit, before_answer, bit_remark, time_from, answers_poll, answer_to, response_to, left_unanswered, supervisory_remark, answer_remark, ns_of, window_of, busy_of, nr_of, remarks_on, has_violation, is_violation};
+ghost use Rattle.lapd_follow.specs.Remarks.{unexpected_ua, ended, ua_remark, sent_remark, establishment_remark, repeated, out_of_sequence, ns_remark, is_in_window, k_or_most, window_remark, sent_to_busy, nr_remark, without_p, ua_bit, before_answer, bit_remark, time_from, answers_poll, answer_to, response_to, left_unanswered, supervisory_remark, answer_remark, ns_of, window_of, busy_of, nr_of, remarks_on, has_violation, is_violation};
 ghost use Rattle.lapd_follow.specs.Texts.{noted_text, remarks_text};
 
 use crate::dialogue::Dialogue;
@@ -19,7 +19,8 @@ use std::fmt;
 /// The remarks on one frame, at most one of each kind.
 #[derive(Clone, Copy, Debug, PartialEq, Eq)]
 pub struct Remarks {
-    /// Whether a UA begins an establishment, or an I or S frame is sent on a released link.
+    /// Whether a UA begins an establishment, a UA or DM ends it, or an I or S frame is sent on a
+    /// released link or shows the last of the numbers.
     pub establishment: Option<Remark>,
     /// On the N(S) of an I frame.
     pub ns: Option<Remark>,
@@ -140,24 +141,38 @@ pub(crate) fn put_remarks(
     said.conflict = None;
 }
 
-/// The remark on establishment: of a UA, or of an I or S frame.
+/// The remark on establishment: of a UA or DM, or of an I or S frame.
 fn establishment_remark(control: &Control, dialogue: &Dialogue) -> Option<Remark>
     ensures { result ≡ establishment_remark control.now dialogue.now }
 {
     match *control {
         Control::I { .. } | Control::Rr { .. } | Control::Rnr { .. } | Control::Rej { .. } => {
-            sent_released(dialogue.from.is_released)
+            sent_remark(dialogue)
         }
+        Control::Dm { .. } => ended(true, dialogue),
         Control::Ua { .. } => ua_remark(dialogue),
         _ => None,
     }
 }
 
-fn sent_released(is_released: bool) -> Option<Remark>
-    ensures { result ≡ sent_released is_released }
+fn sent_remark(dialogue: &Dialogue) -> Option<Remark>
+    ensures { result ≡ sent_remark dialogue.now }
 {
-    if is_released {
+    if dialogue.from.is_released {
         Some(Remark::SentReleased)
+    } else if dialogue.is_learned() {
+        Some(Remark::NumbersKnown)
+    } else {
+        None
+    }
+}
+
+/// The remark on a frame that releases the link, or not.
+fn ended(is_release: bool, dialogue: &Dialogue) -> Option<Remark>
+    ensures { result ≡ ended is_release dialogue.now }
+{
+    if is_release && dialogue.is_established {
+        Some(Remark::Ends(dialogue.establishments))
     } else {
         None
     }
@@ -171,7 +186,7 @@ fn ua_remark(dialogue: &Dialogue) -> Option<Remark>
     } else if dialogue.begins_establishment() {
         Some(Remark::Begins(dialogue.establishments.saturating_add(1)))
     } else {
-        None
+        ended(dialogue.to.awaits_release(), dialogue)
     }
 }
 

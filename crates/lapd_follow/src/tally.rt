@@ -1,6 +1,6 @@
 ghost use Rattle.std.specs.Prelude.{◌≡◌, if◌then◌else◌};
 ghost use Rattle.lapd_follow.specs.Ends.{one_more};
-ghost use Rattle.lapd_follow.specs.Tallies.{answer_time, counted, greatest_with, is_poll, is_repeat, least_with, middle_of, no_kinds, no_tally, no_times, poll_bit, tallied, with_time};
+ghost use Rattle.lapd_follow.specs.Tallies.{answer_time, counted, greatest_with, is_poll, is_repeat, is_unfollowed, least_with, middle_of, no_kinds, no_tally, no_times, poll_bit, tallied, with_time};
 
 use crate::busy_time::no_busy_time;
 use crate::classes::{CLASSES, class_of, middle_class, middle_within};
@@ -48,6 +48,9 @@ pub struct Tally {
     pub octets: u64,
     /// The I frames that were sent again before they were acknowledged.
     pub repeated: u64,
+    /// The I frames of which is not known whether they were sent again, as the numbers of their
+    /// link were not known.
+    pub unfollowed: u64,
     /// The commands with P=1 that it sent: I, RR, RNR, REJ, SABME and DISC.
     pub polls: u64,
     /// The times after which it answered polls.
@@ -65,20 +68,22 @@ impl Tally {
             kinds: no_kinds(),
             octets: 0,
             repeated: 0,
+            unfollowed: 0,
             polls: 0,
             times: no_times(),
             busy: no_busy_time(),
         }
     }
 
-    /// Counts one more frame, in this packet, with the remarks on it.
-    pub fn add(&mut self, packet: Packet, frame: &Frame<'_>, said: &Remarks)
-        ensures { self.new ≡ tallied packet frame.now said.now self.old }
+    /// Counts one more frame, in this packet, with the remarks on it; its link is followed or not.
+    pub fn add(&mut self, packet: Packet, frame: &Frame<'_>, said: &Remarks, is_followed: bool)
+        ensures { self.new ≡ tallied packet frame.now said.now is_followed self.old }
     {
         let control = frame.control();
         self.kinds.count(&control);
         self.octets = self.octets.saturating_add(frame.info().len() as u64);
         self.repeated = increased(is_repeat(&said.ns), self.repeated);
+        self.unfollowed = increased(is_unfollowed(is_followed, &control), self.unfollowed);
         self.polls = increased(is_poll(frame.address().role, &control), self.polls);
         self.times.add(answer_time(&said.answer));
         self.busy.take(&control, packet.moment);
@@ -179,6 +184,16 @@ fn is_repeat(remark: &Option<Remark>) -> bool
     ensures { result ≡ is_repeat remark.now }
 {
     matches!(remark, Some(Remark::Repeated | Remark::RepeatedOtherwise))
+}
+
+/// Whether it is an I frame of which is not known whether it is sent again.
+fn is_unfollowed(is_followed: bool, control: &Control) -> bool
+    ensures { result ≡ is_unfollowed is_followed control.now }
+{
+    match *control {
+        Control::I { .. } => !is_followed,
+        _ => false,
+    }
 }
 
 /// The time after which the frame answers a poll, if it does and the time is known.

@@ -29,7 +29,7 @@ user 02810102:
 user 00810103:
 net 00810103: answers packet 7 in 0.040000 s;
 user 008153:
-net 008173: answers packet 9 in 0.040000 s;
+net 008173: ends establishment 1; answers packet 9 in 0.040000 s;
 # V(R) is not reset when the link is established again
 user 00817f:
 net 008173: begins establishment 1; answers packet 1 in 0.040000 s;
@@ -107,6 +107,43 @@ user 00817f:
 net 00810107: answers an earlier poll;
 net 008173: begins establishment 1; answers packet 4 in 0.080000 s;
 user 0081000001:
+# the capture begins on an established link: I frames and their acknowledgements show its numbers
+user 00810a0601:
+net 0081010c:
+net 0281060c02:
+user 02810108: numbers known from here on;
+user 00810c0803:
+net 0081010e:
+user 00810c0803: N(S) 6, 7 expected;
+net 00810110: !N(R) 8 is not from 7 to 7;
+user 008153:
+net 008173: ends the establishment; answers packet 9 in 0.040000 s;
+# the same; polls and their answers show them
+user 00810107:
+net 0081010d: answers packet 1 in 0.040000 s;
+net 0281010d:
+user 02810107: numbers known from here on; answers packet 3 in 0.040000 s;
+user 00810c0601:
+user 00810c0601: repeated;
+user 00810c0602: !repeated with other octets;
+# the same; the tag after 127 is 0
+user 0081fefe01:
+net 00810100:
+net 0281fe0002:
+user 02810100: numbers known from here on;
+net 00810102: !N(R) 1 is not from 0 to 0;
+# the same; other N(R), and an answer while two polls are open, show nothing
+user 00810a0601:
+net 0281060a02:
+user 00810a0601:
+net 00810112:
+net 0281080c02:
+net 0281010d:
+net 0281010d: packet 6 is not answered;
+user 02810107: answers packet 7 in 0.040000 s;
+user 02810107: answers an earlier poll;
+user 02810108:
+user 0281010a: numbers known from here on;
 # both establish at once, and frames of the old establishment are still on the line
 user 00817f:
 net 008173: begins establishment 1; answers packet 1 in 0.040000 s;
@@ -144,14 +181,14 @@ user 00817f:
 net 008173: begins establishment 1; answers packet 1 in 0.040000 s;
 user 008153:
 net 00810102:
-net 008173: answers packet 3 in 0.080000 s;
+net 008173: ends establishment 1; answers packet 3 in 0.080000 s;
 user 0081000001: !sent on a released link;
 net 00810100: !sent on a released link;
 user 00817f:
 user 0081000001: !sent on a released link;
 net 008173: begins establishment 2; answers packet 8 in 0.080000 s;
 user 0081020001:
-net 00811f:
+net 00811f: ends establishment 2;
 net 00810102: !sent on a released link;
 # after a DISC that is sent again, a UA may answer an earlier SABME; the UA to a SABME may be lost
 user 00817f:
@@ -162,7 +199,7 @@ net 008173: answers packet 4 in 0.040000 s;
 user 0081000001:
 net 028153:
 net 028153: packet 7 is not answered;
-user 02811f: answers packet 8 in 0.040000 s;
+user 02811f: ends establishment 1; answers packet 8 in 0.040000 s;
 net 02817f:
 user 0081000001:
 # SABME and DISC with P=0, and UA with F=0
@@ -171,7 +208,7 @@ net 008163: begins establishment 1; answers packet 1 in 0.040000 s;
 user 00817f:
 net 008163: begins establishment 2; !F=0 answers P=1; answers packet 3 in 0.040000 s;
 user 008143: !DISC with P=0;
-net 008163: answers packet 5 in 0.040000 s;
+net 008163: ends establishment 2; answers packet 5 in 0.040000 s;
 # an I frame with P=0 before the answer to a poll
 user 00817f:
 net 008173: begins establishment 1; answers packet 1 in 0.040000 s;

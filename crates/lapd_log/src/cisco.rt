@@ -105,7 +105,13 @@ impl CiscoLine<'_> {
     ) -> bool {
         match (sapi_in(values), tei_in(values)) {
             (Some(sapi), Some(tei)) => {
-                self.write(Address { sapi, role, tei }, control, info, octets)
+                write_frame(
+                    self.from,
+                    Address { sapi, role, tei },
+                    control,
+                    info,
+                    octets,
+                )
             }
             _ => false,
         }
@@ -137,24 +143,24 @@ impl CiscoLine<'_> {
             tei: Tei::group(),
         };
         let info = [MANAGEMENT, high, low, message, action];
-        self.write(address, Control::Ui { p: false }, &info, octets)
+        write_frame(self.from, address, Control::Ui { p: false }, &info, octets)
     }
+}
 
-    // Puts a frame.
-    fn write(
-        &self,
-        address: Address,
-        control: Control,
-        info: &[u8],
-        octets: &mut ArrayVec<u8, MOST_OCTETS>,
-    ) -> bool {
-        match Frame::new(address, control, info) {
-            Ok(frame) => {
-                write_over(&frame, self.from, octets);
-                true
-            }
-            Err(_) => false,
+/// Puts the frame of this sender into `octets`. Returns whether there is such a frame.
+pub(crate) fn write_frame(
+    from: Side,
+    address: Address,
+    control: Control,
+    info: &[u8],
+    octets: &mut ArrayVec<u8, MOST_OCTETS>,
+) -> bool {
+    match Frame::new(address, control, info) {
+        Ok(frame) => {
+            write_over(&frame, from, octets);
+            true
         }
+        Err(_) => false,
     }
 }
 
@@ -279,9 +285,14 @@ fn tei_in(values: &[u8]) -> Option<Tei> {
 // Appends the octets whose digits are behind `i = 0x`; none if there are no such digits.
 fn push_info(info: &mut Vec<u8>, values: &[u8]) -> Result<(), AllocError> {
     let text = value_behind(b" i", values).unwrap_or(&[]);
-    let Some(digits) = text.strip_prefix(b"0x") else {
-        return Ok(());
-    };
+    match text.strip_prefix(b"0x") {
+        Some(digits) => push_octets(info, digits),
+        None => Ok(()),
+    }
+}
+
+/// Appends the octets whose digits begin a text.
+pub(crate) fn push_octets(info: &mut Vec<u8>, digits: &[u8]) -> Result<(), AllocError> {
     let mut rest = digits;
     for _octet in 0..digits.len() {
         let [high, low, next @ ..] = rest else {

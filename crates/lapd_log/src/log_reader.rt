@@ -5,14 +5,17 @@ ghost use Rattle.std.specs.Prelude.{◌≤◌, length};
 use crate::block::{BlockForm, block_line};
 use crate::cisco::{cisco_line, interface_in};
 use crate::listed::{goes_on, is_list, plain};
+use crate::log_clock::LogClock;
 use crate::named_span::span_in;
-use crate::stamp::stamp_in;
+use crate::stamp::{Stamp, StampDate};
 use crate::text::behind;
+use crate::trace::{TraceLine, trace_line};
 use crate::traced::traced_line;
 use crate::word_dump::{has_offset, is_word_dump};
 use arrayvec::ArrayVec;
 use lapd_cli_script::first_line;
 use lapd_frame::{MOST_OCTETS, Side};
+use lapd_zone::Zone;
 use std::alloc::{AllocError, Global};
 use std::io::{self, ErrorKind, Read};
 use std::mem;
@@ -28,24 +31,35 @@ const DIGITS: &[u8; 16] = b"0123456789abcdef";
 
 /// How the lines of a log are read.
 #[derive(Clone, Copy)]
-pub struct LogStyle<'a> {
+pub struct LogStyle<'a, 'z> {
     /// The side that printed the log. If it is `None`, a line of Cisco that does not say it is
     /// taken as of the user side.
     pub printer: Option<Side>,
     /// The span whose lines are read; the first one that a line names, if it is `None`.
     pub span: Option<&'a str>,
-    /// Whether times are put in front of lines.
-    pub has_times: bool,
-    /// Whether only times with a year are read.
-    pub needs_year: bool,
+    /// The times that are put in front of lines.
+    pub times: LogTimes<'z>,
+}
+
+/// The times that are put in front of the lines of a log.
+#[derive(Clone, Copy)]
+pub enum LogTimes<'a> {
+    /// None.
+    Hidden,
+    /// All times, in UTC. A time without a zone is taken as UTC.
+    All,
+    /// The same of times with their year.
+    Dated,
+    /// All times, as a clock in this zone shows them. A time without a zone is unchanged.
+    Local(&'a Zone),
 }
 
 /// A reader of text that rewrites the lines of another reader's log in the forms that `decode`
-/// reads: lines of Cisco, of Osmocom and of mISDN, and octets that are listed with commas, dashes or
-/// escapes. Lists and dumps without offsets that have several lines are joined to one, which follows
+/// reads: lines of Cisco, of Osmocom and of mISDN, trace lines of `lapd`, and octets that are listed
+/// with commas, dashes or escapes. Lists and dumps without offsets that have several lines are joined to one, which follows
 /// empty lines, so that the lines keep their numbers. If times are
-/// requested, a line with a time has it in front, in seconds since 1970 with six digits after the
-/// point, and a line without one has that of the line before; but not a line of a dump with offsets.
+/// requested, a line with a time has it in front, as `@` and the microseconds since 1970, and a line
+/// without one has that of the line before; but not a line of a dump with offsets.
 /// Lines of dumps of words of 16 bits are left out. Other lines are unchanged.
 ///
 /// Only the lines of one span are passed on, and those of no span. A line that names no span is of
@@ -55,10 +69,10 @@ pub struct LogStyle<'a> {
 /// A line is passed on when it was read, the last line of a dump when the next one was. Its memory
 /// is bounded but for the lines of other spans.
 #[derive(Drop)]
-pub struct LogReader<'a, R> {
+pub struct LogReader<'a, 'z, R> {
     alloc: Global,
     reader: R,
-    style: LogStyle<'a>,
+    style: LogStyle<'a, 'z>,
     /// The line that is being read.
     line: Vec<u8>,
     /// Whether the beginning of this line was passed on, since it is too long to be rewritten.
@@ -69,8 +83,10 @@ pub struct LogReader<'a, R> {
     last_span: Vec<u8>,
     /// The lines of other spans.
     others: Vec<u8>,
-    /// The time of the last line that had one, in microseconds.
-    time: Option<u64>,
+    /// The times of the lines so far.
+    clock: LogClock,
+    /// Whether a time without its year was read.
+    is_yearless: bool,
     /// The lines of a list or a dump that is being read: as they are, and its octets.
     held: Held,
     /// Whether a line of a dump of words of 16 bits was left out.
@@ -101,7 +117,17 @@ enum HeldForm {
     Closed,
 }
 
-impl<'a, R: Read + Drop> LogReader<'a, R> {
+impl LogTimes<'_> {
+    // The microseconds since 1970 that are put in front of a line with this time.
+    fn shown(self, stamp: Stamp) -> u64 {
+        match self {
+            LogTimes::Local(zone) if stamp.has_zone => zone.local(stamp.micros),
+            _ => stamp.micros,
+        }
+    }
+}
+
+impl<'a, 'z, R: Read + Drop> LogReader<'a, 'z, R> {
     /// Rewrites the text of this reader.
     ///
     /// # Errors
@@ -110,8 +136,8 @@ impl<'a, R: Read + Drop> LogReader<'a, R> {
     pub fn new(
         alloc: Global,
         reader: R,
-        style: LogStyle<'a>,
-    ) -> Result<LogReader<'a, R>, AllocError> {
+        style: LogStyle<'a, 'z>,
+    ) -> Result<LogReader<'a, 'z, R>, AllocError> {
         let mut span = Vec::new(alloc);
         if let Some(chosen) = style.span {
             span.extend_from_slice(chosen.as_bytes())?;
@@ -125,7 +151,8 @@ impl<'a, R: Read + Drop> LogReader<'a, R> {
             span,
             last_span: Vec::new(alloc),
             others: Vec::new(alloc),
-            time: None,
+            clock: LogClock::NEW,
+            is_yearless: false,
             held: Held {
                 form: HeldForm::Nothing,
                 lines: 0,
@@ -148,6 +175,22 @@ impl<'a, R: Read + Drop> LogReader<'a, R> {
     /// Whether a line of a dump of words of 16 bits was left out: its octets may be exchanged.
     pub fn has_words(&self) -> bool {
         self.has_words
+    }
+
+    /// How many times were before the one above them; such a time is passed on unchanged.
+    pub fn times_gone_back(&self) -> u64 {
+        self.clock.gone_back()
+    }
+
+    /// Whether a time was passed on whose line does not have the year. It is as of a year from 1972
+    /// to 1979, or of the first days of 1970 if it has no date.
+    pub fn is_yearless(&self) -> bool {
+        self.is_yearless
+    }
+
+    /// Whether a time was passed on.
+    pub fn has_times(&self) -> bool {
+        self.clock.last().is_some()
     }
 
     /// The lines of other spans that were kept, and forgets them.
@@ -247,15 +290,11 @@ impl<'a, R: Read + Drop> LogReader<'a, R> {
 
     // Rewrites a line.
     fn rewrite(&mut self, line: &[u8], feed: &[u8]) -> Result<(), AllocError> {
-        if let Some(stamp) = stamp_in(line) {
-            if stamp.is_dated || !self.style.needs_year {
-                self.time = Some(stamp.micros);
-            }
-        }
         if self.hold(line)? {
             return Ok(());
         }
         self.end_held()?;
+        self.take_time(line);
         self.is_behind_digits = false;
         if is_word_dump(line) {
             self.has_words = true;
@@ -268,15 +307,27 @@ impl<'a, R: Read + Drop> LogReader<'a, R> {
         self.ready.extend_from_slice(feed)
     }
 
+    // Takes the time of a line, if it has one that is requested.
+    fn take_time(&mut self, line: &[u8]) {
+        let times = self.style.times;
+        if matches!(times, LogTimes::Hidden) {
+            return;
+        }
+        if let Some(stamp) = self.clock.stamp_in(line) {
+            let is_whole = stamp.date == StampDate::Whole;
+            if is_whole || !matches!(times, LogTimes::Dated) {
+                self.is_yearless |= !is_whole;
+                self.clock.take(times.shown(stamp));
+            }
+        }
+    }
+
     // Appends the time in front of a line.
     fn push_time(&mut self) -> Result<(), AllocError> {
-        let Some(time) = self.time else {
+        let Some(time) = self.clock.last() else {
             return Ok(());
         };
-        if !self.style.has_times {
-            return Ok(());
-        }
-        let text = stamp_text(self.alloc, time)?;
+        let text = format!(in self.alloc; "@{time} ")?;
         self.ready.extend_from_slice(text.as_bytes())
     }
 
@@ -297,12 +348,29 @@ impl<'a, R: Read + Drop> LogReader<'a, R> {
                 return push_digits(&mut self.ready, octets.as_slice());
             }
         }
+        if let Some(trace) = trace_line(line) {
+            return self.push_trace(trace, line);
+        }
         if let Some(traced) = traced_line(line) {
             let mark: &[u8] = if traced.is_sent { b"> " } else { b"< " };
             self.ready.extend_from_slice(mark)?;
             return self.ready.extend_from_slice(traced.text);
         }
         self.push_sides_list(line)
+    }
+
+    // Appends the octets of a trace line, or the line unchanged if it does not fix them.
+    fn push_trace(&mut self, trace: TraceLine<'_>, line: &[u8]) -> Result<(), AllocError> {
+        if let Some(digits) = trace.faulty_digits() {
+            self.push_sender(trace.from)?;
+            return self.ready.extend_from_slice(digits);
+        }
+        let mut octets = ArrayVec::new();
+        if !trace.octets_into(self.alloc, &mut octets)? {
+            return self.ready.extend_from_slice(line);
+        }
+        self.push_sender(trace.from)?;
+        push_digits(&mut self.ready, octets.as_slice())
     }
 
     // Appends the side that sent the octets behind it.
@@ -431,7 +499,7 @@ impl Held {
     }
 }
 
-impl<R: Read + Drop> Read for LogReader<'_, R> {
+impl<R: Read + Drop> Read for LogReader<'_, '_, R> {
     fn read(&mut self, octets: &mut [u8]) -> io::Result<usize> {
         let mut part = [0; PART];
         for _read in 0..u64::MAX {
@@ -507,13 +575,6 @@ fn is_named(is_chosen: bool, span: &[u8], name: &[u8]) -> bool {
         Some([]) | Some([b' ', ..]) => true,
         _ => false,
     }
-}
-
-// A time in front of a line.
-fn stamp_text(alloc: Global, time: u64) -> Result<String, AllocError> {
-    let seconds = time / 1_000_000;
-    let micros = time % 1_000_000;
-    format!(in alloc; "{seconds}.{micros:06} ")
 }
 
 // Appends octets as digits.

@@ -1,11 +1,11 @@
 //! The time of a line of a log.
 
 use crate::date::days_since_1970;
-use crate::text::{digits_behind, digits_len, is_digit, number_at};
-use lapd_cli_script::{is_word, number_of};
+use crate::text::{digits_behind, digits_len, is_digit, is_hex_digit, number_at};
+use lapd_cli_script::{first_line, is_word, number_of};
 
-/// The year of a time whose line does not have it: a leap year, so that it has each day.
-const ANY_YEAR: u64 = 1972;
+/// A leap year, which has each day of a date without a year.
+const LEAP_YEAR: u64 = 1972;
 
 const SECOND: u64 = 1_000_000;
 
@@ -14,11 +14,24 @@ const DAY: u64 = 86_400;
 /// The time of a line of a log.
 #[derive(Clone, Copy, Debug, PartialEq, Eq)]
 pub struct Stamp {
-    /// Microseconds since 1970. A time without a zone is taken as UTC, and one without a year as of
-    /// 1972.
+    /// Microseconds since 1970, in UTC. A time without a zone is taken as UTC, and one without a
+    /// date as of 1 January 1970.
     pub micros: u64,
-    /// Whether the line has the year too.
-    pub is_dated: bool,
+    /// How much of the date the line has.
+    pub date: StampDate,
+    /// Whether the line has the zone of the time too, or a number of seconds since 1970.
+    pub has_zone: bool,
+}
+
+/// How much of the date a line of a log has.
+#[derive(Clone, Copy, Debug, PartialEq, Eq)]
+pub enum StampDate {
+    /// Nothing: it has the time of day alone.
+    Missing,
+    /// The month and the day, without the year.
+    Yearless,
+    /// All.
+    Whole,
 }
 
 /// A year, a month and a day; none of them if they are not known.
@@ -30,8 +43,9 @@ struct Date {
 }
 
 /// The time that a line of a log has: the first time of day in it, with the date before it; or at
-/// its beginning the seconds since 1970, or digits of date and time.
-pub fn stamp_in(line: &[u8]) -> Option<Stamp> {
+/// its beginning the seconds since 1970, or digits of date and time. A date without a year is taken
+/// as of this one.
+pub fn stamp_in(line: &[u8], year: u64) -> Option<Stamp> {
     let front = line.trim_ascii_start();
     let front = front.strip_prefix(b"[").unwrap_or(front);
     if let Some(stamp) = epoch_at(front) {
@@ -47,9 +61,9 @@ pub fn stamp_in(line: &[u8]) -> Option<Stamp> {
             return None;
         };
         let (before, _) = line.split_at(passed.min(line.len()));
-        if !ends_with_digit(before) {
+        if !ends_in_number(before) {
             if let Some((seconds, behind)) = clock_at(rest) {
-                return Some(stamp_of(seconds, before, behind));
+                return Some(stamp_of(seconds, before, behind, year));
             }
         }
         passed = passed.saturating_add(1);
@@ -58,10 +72,34 @@ pub fn stamp_in(line: &[u8]) -> Option<Stamp> {
     None
 }
 
-// Whether a text ends with a digit.
-fn ends_with_digit(text: &[u8]) -> bool {
+/// Whether a whole line of a text has a time.
+pub fn has_stamp(text: &[u8]) -> bool {
+    let mut rest = text;
+    for _octet in 0..text.len() {
+        let Some((line, behind)) = first_line(rest) else {
+            return false;
+        };
+        if stamp_in(line, LEAP_YEAR).is_some() {
+            return true;
+        }
+        rest = behind;
+    }
+    false
+}
+
+// Whether a text ends within a number, or within octets with colons between them.
+fn ends_in_number(text: &[u8]) -> bool {
     match text {
-        [.., last] => is_digit(*last),
+        [.., last] => is_digit(*last) || *last == b':',
+        [] => false,
+    }
+}
+
+// Whether a text goes on with a digit, or with another octet behind a colon.
+fn is_in_number(text: &[u8]) -> bool {
+    match text {
+        [b':', next, ..] => is_hex_digit(*next),
+        [next, ..] => is_digit(*next),
         [] => false,
     }
 }
@@ -81,7 +119,8 @@ fn epoch_at(text: &[u8]) -> Option<Stamp> {
                 .saturating_add(micros_of(fraction));
             Some(Stamp {
                 micros,
-                is_dated: true,
+                date: StampDate::Whole,
+                has_zone: true,
             })
         }
         _ => None,
@@ -117,7 +156,8 @@ fn digits_at(text: &[u8]) -> Option<Stamp> {
         .saturating_add(micros_of(rest));
     Some(Stamp {
         micros,
-        is_dated: true,
+        date: StampDate::Whole,
+        has_zone: false,
     })
 }
 
@@ -138,7 +178,7 @@ fn clock_at(text: &[u8]) -> Option<(u64, &[u8])> {
     let (minute, rest) = number_of_first(2, rest)?;
     let rest = rest.strip_prefix(b":")?;
     let (second, rest) = number_of_first(2, rest)?;
-    if hour > 23 || minute > 59 || second > 60 || starts_with_digit(rest) {
+    if hour > 23 || minute > 59 || second > 60 || is_in_number(rest) {
         return None;
     }
     Some((seconds_of(hour, minute, second), rest))
@@ -150,8 +190,8 @@ fn seconds_of(hour: u64, minute: u64, second: u64) -> u64 {
         .saturating_add(second)
 }
 
-// The time of these seconds of a day, between these texts.
-fn stamp_of(seconds: u64, before: &[u8], behind: &[u8]) -> Stamp {
+// The time of these seconds of a day, between these texts. A date without a year is of this one.
+fn stamp_of(seconds: u64, before: &[u8], behind: &[u8], other_year: u64) -> Stamp {
     let (micros, behind) = fraction_at(behind);
     let date = date_before(before);
     let year = match date {
@@ -162,17 +202,23 @@ fn stamp_of(seconds: u64, before: &[u8], behind: &[u8]) -> Stamp {
         None => None,
     };
     let days = match date {
-        Some(date) => days_of(year.unwrap_or(ANY_YEAR), date.month, date.day),
+        Some(date) => days_of(year.unwrap_or(other_year), date.month, date.day),
         None => None,
     };
     let seconds = days
         .unwrap_or(0)
         .saturating_mul(DAY)
         .saturating_add(seconds);
-    let seconds = in_zone(seconds, behind);
+    let zone = zone_at(behind);
+    let seconds = in_zone(seconds, zone);
     Stamp {
         micros: seconds.saturating_mul(SECOND).saturating_add(micros),
-        is_dated: days.is_some() && year.is_some(),
+        date: match (days, year) {
+            (None, _) => StampDate::Missing,
+            (Some(_), None) => StampDate::Yearless,
+            (Some(_), Some(_)) => StampDate::Whole,
+        },
+        has_zone: zone.is_some(),
     }
 }
 
@@ -203,25 +249,51 @@ fn micros_of(digits: &[u8]) -> u64 {
     micros
 }
 
-// The seconds in UTC, if a zone is behind the time, as `Z` or `+01:00`.
-fn in_zone(seconds: u64, behind: &[u8]) -> u64 {
+// A zone: whether it is ahead of UTC, and by how many seconds, or behind it.
+#[derive(Clone, Copy)]
+struct ZoneOffset {
+    is_ahead: bool,
+    seconds: u64,
+}
+
+// The zone behind a time, as `Z`, ` UTC`, `+01:00`, `+0100` or `+01`.
+fn zone_at(behind: &[u8]) -> Option<ZoneOffset> {
     match behind {
-        [b'+', zone @ ..] => seconds.saturating_sub(offset_of(zone)),
-        [b'-', zone @ ..] => seconds.saturating_add(offset_of(zone)),
-        _ => seconds,
+        [b'Z', ..] | [b' ', b'U', b'T', b'C', ..] => Some(ZoneOffset {
+            is_ahead: true,
+            seconds: 0,
+        }),
+        [b'+', zone @ ..] | [b' ', b'+', zone @ ..] => offset_of(true, zone),
+        [b'-', zone @ ..] | [b' ', b'-', zone @ ..] => offset_of(false, zone),
+        _ => None,
     }
 }
 
-// The seconds of a zone's offset, as `HH:MM` or `HHMM`; 0 if the text has no such form.
-fn offset_of(zone: &[u8]) -> u64 {
-    let Some((hours, rest)) = number_of_first(2, zone) else {
-        return 0;
-    };
+// The seconds in UTC of a time in a zone.
+fn in_zone(seconds: u64, zone: Option<ZoneOffset>) -> u64 {
+    match zone {
+        None => seconds,
+        Some(zone) if zone.is_ahead => seconds.saturating_sub(zone.seconds),
+        Some(zone) => seconds.saturating_add(zone.seconds),
+    }
+}
+
+// The offset of a zone, as `HH:MM`, `HHMM` or `HH`.
+fn offset_of(is_ahead: bool, zone: &[u8]) -> Option<ZoneOffset> {
+    let (hours, rest) = number_of_first(2, zone)?;
     let rest = rest.strip_prefix(b":").unwrap_or(rest);
-    let Some((minutes, _)) = number_of_first(2, rest) else {
-        return 0;
+    let minutes = match number_of_first(2, rest) {
+        Some((minutes, _)) => minutes,
+        None if starts_with_digit(rest) => return None,
+        None => 0,
     };
-    seconds_of(hours, minutes, 0)
+    if hours > 14 || minutes > 59 {
+        return None;
+    }
+    Some(ZoneOffset {
+        is_ahead,
+        seconds: seconds_of(hours, minutes, 0),
+    })
 }
 
 // The year behind a time, as ctime prints it.

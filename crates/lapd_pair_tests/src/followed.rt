@@ -1,6 +1,7 @@
 //! Drawn runs of two ends, followed by a listener on the line: one that sees each frame when it is
 //! sent, one that sees it when it is delivered, one at the user's end or one at the network's. Both
-//! ends follow Q.921, so no frame is a violation, whatever frames are lost. The runs must be varied:
+//! ends follow Q.921, so no frame is a violation, whatever frames are lost, also for a listener that
+//! begins in the middle of the run and learns the numbers. The runs must be varied:
 //! every remark that a lossy line can bring is made.
 
 use crate::draws::MoveDraws;
@@ -31,6 +32,8 @@ struct Counts {
     busy: u32,
     answers: u32,
     unanswered: u32,
+    /// By a listener that begins in the middle.
+    known: u32,
 }
 
 impl Counts {
@@ -63,6 +66,7 @@ impl Counts {
             && self.busy > 20
             && self.answers > 100
             && self.unanswered > 20
+            && self.known > 20
     }
 }
 
@@ -70,6 +74,9 @@ impl Counts {
 #[derive(Drop)]
 struct Listener {
     watch: Watch,
+    /// The same, but without the first frames, and how many more it misses.
+    late: Watch,
+    missed: u32,
     /// Whether it sees frames to the user when they are sent, and not when they are delivered; and
     /// the same of those to the network.
     sees_sent_to_user: bool,
@@ -88,20 +95,40 @@ impl Listener {
             if let Some(said) = self.watch.take(to.other(), octets) {
                 self.counts.take(&said);
             }
+            self.take_late(to.other(), octets);
         }
+    }
+
+    /// Takes a frame of this side by the listener that begins in the middle.
+    fn take_late(&mut self, sender: Side, octets: &[u8]) {
+        if self.missed > 0 {
+            self.missed = self.missed.wrapping_sub(1);
+        } else if let Some(said) = self.late.take(sender, octets) {
+            if let Some(Remark::NumbersKnown) = said.establishment {
+                self.counts.known = self.counts.known.wrapping_add(1);
+            }
+        }
+    }
+
+    /// Whether no remarks were wrong.
+    fn is_sound(&self, text: &mut Text) -> bool {
+        self.watch.is_sound(text) && self.late.is_sound(text)
     }
 }
 
-/// A listener that knows the window 7. `None` if an allocation fails.
-fn listener_at(alloc: Global, to_user: bool, to_network: bool) -> Option<Listener> {
-    match Watch::new(alloc, Some(7)) {
-        Some(watch) => Some(Listener {
+/// A listener that knows the window 7, and one that misses the first frames. `None` if an allocation
+/// fails.
+fn listener_at(alloc: Global, to_user: bool, to_network: bool, missed: u32) -> Option<Listener> {
+    match (Watch::new(alloc, Some(7)), Watch::new(alloc, Some(7))) {
+        (Some(watch), Some(late)) => Some(Listener {
             watch,
+            late,
+            missed,
             sees_sent_to_user: to_user,
             sees_sent_to_network: to_network,
             counts: Counts::default(),
         }),
-        None => None,
+        _ => None,
     }
 }
 
@@ -160,7 +187,7 @@ fn is_right(
 ) -> bool {
     let mut draws = MoveDraws::new(alloc);
     for number in 0..RUNS {
-        if !is_right_from_new(alloc, &mut draws, recoveries, place, counts, text) {
+        if !is_right_from_new(alloc, &mut draws, recoveries, (place, number), counts, text) {
             text.shown(" in run ", &number);
             return false;
         }
@@ -173,7 +200,7 @@ fn is_right_from_new(
     alloc: Global,
     draws: &mut MoveDraws,
     recoveries: (Recovery, Recovery),
-    place: (bool, bool),
+    place: ((bool, bool), u32),
     counts: &mut Counts,
     text: &mut Text,
 ) -> bool {
@@ -183,16 +210,17 @@ fn is_right_from_new(
     }
 }
 
-/// Makes a run of this pair with a new listener.
+/// Makes a run of this pair with a new listener. In later runs more frames are missed.
 fn is_right_over(
     alloc: Global,
     draws: &mut MoveDraws,
     pair: &mut Pair,
-    place: (bool, bool),
+    place: ((bool, bool), u32),
     counts: &mut Counts,
     text: &mut Text,
 ) -> bool {
-    match listener_at(alloc, place.0, place.1) {
+    let ((to_user, to_network), number) = place;
+    match listener_at(alloc, to_user, to_network, number.wrapping_mul(3)) {
         Some(mut listener) => is_right_run(draws, pair, &mut listener, counts, text),
         None => false,
     }
@@ -209,7 +237,7 @@ fn is_right_run(
     listener.counts = *counts;
     let is_made = run(draws, pair, listener);
     *counts = listener.counts;
-    is_made && listener.watch.is_sound(text)
+    is_made && listener.is_sound(text)
 }
 
 fn right_with(alloc: Global, user: Recovery, network: Recovery) -> Result<(), Fail> {

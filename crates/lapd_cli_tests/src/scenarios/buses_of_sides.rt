@@ -144,7 +144,7 @@ take 0
 take 1
 take-up 2
      <---<-------|  63 127 UI P=0 identity assigned Ri=6199 Ai=64
-     |   |   |   |    0 tei got 64
+     |   |   |   |    terminal 0 tei got 64
      |   |   |-->|  63 127 UI P=0 identity request Ri=040d Ai=127
      |   |   |   |    net tei given 65
 lose 1 0
@@ -155,7 +155,7 @@ take 2
 take 0
 take 0
      <-------<---|  63 127 UI P=0 identity assigned Ri=040d Ai=65
-     |   |   |   |    2 tei got 65
+     |   |   |   |    terminal 2 tei got 65
     nothing
 
 lapd bus --links --ladder
@@ -172,14 +172,14 @@ restart
 take 1
 join 0 64
      |   <---|  63 127 UI P=0 identity assigned Ri=0fd2 Ai=64
-     |   |   |    1 tei got 64
-     |   |   |    0 joins
+     |   |   |    terminal 1 tei got 64
+     |   |   |    terminal 0 joins
 release 0 16 0
-     |   |   |    0 16 64 release-confirmed
+     |   |   |    terminal 0 16 64 release-confirmed
 take 0
 take 1
      <-------|  63 127 UI P=0 identity assigned Ri=0fd2 Ai=64
-     |   |   |    0 tei gone 64
+     |   |   |    terminal 0 tei gone 64
     nothing
 join 0 64 2
 ! line 11: bad command
@@ -194,7 +194,7 @@ settle
 establish 0 0 0
 lose-up 0 0
      <---<---|  63 127 UI P=0 identity assigned Ri=6199 Ai=64
-     |   |   |    0 tei got 64
+     |   |   |    terminal 0 tei got 64
      |-----x |  0 64 SABME P=1
 tick 1000
      |   |   |    at 1000 ms
@@ -203,7 +203,7 @@ settle
      |   |   |    net 0 64 established
 remove 64
      <---<---|  0 64 UA F=1
-     |   |   |    0 0 64 confirmed
+     |   |   |    terminal 0 0 64 confirmed
      |   |   |    net tei free 64
      |   |   |    net 0 64 released
 lose 0 0
@@ -221,23 +221,23 @@ take 1
 give 0 0 0 0801
 take-up 0
      |   <---|  63 127 UI P=0 identity assigned Ri=0fd2 Ai=64
-     |   |   |    1 tei got 64
+     |   |   |    terminal 1 tei got 64
      |------>|  0 64 I N(S)=0 N(R)=0 P=0 info=0801
 give 1 0 0 02
     1 refused L1 NotEstablished
 take 0
 .
      <-------|  63 127 UI P=0 identity assigned Ri=0fd2 Ai=64
-     |   |   |    0 tei gone 64
-     |   |   |    0 0 64 released
+     |   |   |    terminal 0 tei gone 64
+     |   |   |    terminal 0 0 64 released
 
 lapd bus --links --ladder --terminals 3
      0   1   2  net
 # a call, and octets that do not fit a row
 join 1 9
-     |   |   |   |    1 joins
+     |   |   |   |    terminal 1 joins
 join 2 9
-     |   |   |   |    2 joins
+     |   |   |   |    terminal 2 joins
 unit 1 0 0 0801010504038090a3
 take-up 1
      |   |------>|  0 9 UI P=0 SETUP cr=1 from origin bearer=speech
@@ -245,6 +245,6 @@ unit net 0 127 00112233445566778899aabbccddeeff00112233445566778899aabbccddeeff
 settle
 .
      <---<---<---|  0 127 UI P=0 info=00112233445566778899aabbccddeeff001122334455..
-     |   |   |   |    0 0 127 unit 00112233445566778899aabbccddeeff001122334455667..
-     |   |   |   |    1 0 127 unit 00112233445566778899aabbccddeeff001122334455667..
-     |   |   |   |    2 0 127 unit 00112233445566778899aabbccddeeff001122334455667..";
+     |   |   |   |    terminal 0 0 127 unit 00112233445566778899aabbccddeeff001122..
+     |   |   |   |    terminal 1 0 127 unit 00112233445566778899aabbccddeeff001122..
+     |   |   |   |    terminal 2 0 127 unit 00112233445566778899aabbccddeeff001122..";

@@ -20,15 +20,15 @@ net 008173
                       |  begins establishment 1                        |
                       |  answers packet 1                              |
 user 0081000008010105
-         3      S1 R0 |-- 0 64 I N(S)=0 N(R)=0 P=0 info=08010105 ----->| S0 R0
+         3      S1 R0 |-- SETUP 0 64 I N(S)=0 N(R)=0 P=0 ------------->| S0 R0
                       |  SETUP cr=1 from origin                        |
 user 008102000801010f
-         4      S2 R0 |-- 0 64 I N(S)=1 N(R)=0 P=0 info=0801010f ----->| S0 R0
+         4      S2 R0 |-- CONNECT ACKNOWLEDGE 0 64 I N(S)=1 N(R)=0.. ->| S0 R0
                       |  CONNECT ACKNOWLEDGE cr=1 from origin          |
 net 00810900
          5      S2 R0 |<-- 0 64 REJ N(R)=0 F=0 ------------------------| S0 R0
 user 0081000008010105
-         6      S2 R0 |-- 0 64 I N(S)=0 N(R)=0 P=0 info=08010105 ----->| S0 R0
+         6      S2 R0 |-- SETUP 0 64 I N(S)=0 N(R)=0 P=0 ------------->| S0 R0
                       |  SETUP cr=1 from origin                        |
                       |  repeated                                      |
 net 00810502
@@ -39,15 +39,34 @@ net 00810503
          9      S2 R0 |<-- 0 64 RNR N(R)=1 F=1 ------------------------| S0 R1 busy
                       |  answers packet 8                              |
 user 008102000801010f
-        10      S2 R0 |-- 0 64 I N(S)=1 N(R)=0 P=0 info=0801010f ----->| S0 R1 busy
+        10      S2 R0 |-- CONNECT ACKNOWLEDGE 0 64 I N(S)=1 N(R)=0.. ->| S0 R1 busy
                       |  CONNECT ACKNOWLEDGE cr=1 from origin          |
                       |  repeated                                      |
                       |  violation: sent to a peer that answered a poll by RNR |
 user 008153
         11  DISC sent |-- 0 64 DISC P=1 ------------------------------>| -
 net 008173
-        12      S0 R0 |<-- 0 64 UA F=1 --------------------------------| S0 R0
+        12          - |<-- 0 64 UA F=1 --------------------------------| -
+                      |  ends establishment 1                          |
                       |  answers packet 11                             |
+
+lapd decode --ladder --names
+# the name of a message of TEI management says what its remark says
+user fcff030f619901ff
+    packet       user |                                                | network
+         1          - |-- 63 127 UI P=0 info=0f619901ff -------------->| -
+                      |  identity request Ri=6199 Ai=127               |
+
+lapd decode --names --follow
+# the same in lines
+user fcff030f619901ff
+    U>N SAPI 63 TEI 127 C UI P=0 info=0f619901ff identity request Ri=6199 Ai=127
+.
+    SAPI 63 TEI 127: establishments 0
+      U>N I 0, RR 0, RNR 0, REJ 0, SABME 0, DISC 0, UA 0, DM 0, UI 1, FRMR 0, XID 0
+      U>N messages 0, octets 5, repeated 0, polls 0
+      N>U I 0, RR 0, RNR 0, REJ 0, SABME 0, DISC 0, UA 0, DM 0, UI 0, FRMR 0, XID 0
+      N>U messages 0, octets 0, repeated 0, polls 0
 
 lapd decode --ladder --kinds i --count 2
 # frames that are not printed are followed, and a long one is cut
@@ -154,7 +173,7 @@ user 00817f
 net 008173
     <g transform="translate(0 0000)"><g transform="translate(0 152)"><path d="M310-20v36M810-20v36"/><path d="M810 0H310" marker-end="url(#head)"/><text x="60" class="end">3</text><text x="190" class="end"></text><text x="300" class="end">S0 R0</text><text x="820">S0 R0</text><text x="560" y="-5" class="middle">0 64 UA F=1</text><text x="560" y="12" class="middle note">begins establishment 1; answers packet 2</text></g></g>
 user 0081000008010105700380263c
-    <g transform="translate(0 0000)"><g transform="translate(0 188)"><path d="M310-20v36M810-20v36"/><path d="M310 0H810" marker-end="url(#head)"/><text x="60" class="end">4</text><text x="190" class="end"></text><text x="300" class="end">S1 R0</text><text x="820">S0 R0</text><text x="560" y="-5" class="middle">0 64 I N(S)=0 N(R)=0 P=0 info=08010105700380263c</text><text x="560" y="12" class="middle note">SETUP cr=1 from origin called=&amp;&lt;</text></g></g>
+    <g transform="translate(0 0000)"><g transform="translate(0 188)"><path d="M310-20v36M810-20v36"/><path d="M310 0H810" marker-end="url(#head)"/><text x="60" class="end">4</text><text x="190" class="end"></text><text x="300" class="end">S1 R0</text><text x="820">S0 R0</text><text x="560" y="-5" class="middle">SETUP 0 64 I N(S)=0 N(R)=0 P=0</text><text x="560" y="12" class="middle note">SETUP cr=1 from origin called=&amp;&lt;</text></g></g>
 net 008173
     <g transform="translate(0 0000)"><g transform="translate(0 224)"><path d="M310-20v36M810-20v36"/><path d="M810 0H310" marker-end="url(#head)"/><text x="60" class="end">5</text><text x="190" class="end"></text><text x="300" class="end">-</text><text x="820">S0 R0</text><text x="560" y="-5" class="middle">0 64 UA F=1</text><text x="560" y="12" class="middle note violation">violation: UA without SABME or DISC</text></g></g>
 user 0081000000000000000000000000000000000000000000000000000000000000000000000000000000000000

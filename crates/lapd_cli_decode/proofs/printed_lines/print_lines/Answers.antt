@@ -11,6 +11,7 @@ returns-in-Ok g c =
       form = c.args.how.form;
       keeps_going = c.args.how.keeps_going;
       shown = None;
+      time = None;
       printing = p;
     } in
     subst (λ (p : Printing). IfSome (g.R.Read.remaining c.args.script.now)

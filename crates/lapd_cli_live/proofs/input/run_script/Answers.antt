@@ -53,3 +53,9 @@ loop-read-preserved g c =
     (part_by c.in_ok-read_part.field-0 true _ _ _ _ c.if-not-branch.false
     c.in_ok-read_part.ensures)
     c.in_ok-run_script_lines.ensures
+
+pub returns-in_err-serve_to_end : goal.returns-in_err-serve_to_end
+returns-in_err-serve_to_end g c =
+    around_ends (g.R.Read.remaining c.args.script.now) c.args.serve_on
+    c.from_residual-in_err-serve_to_end.result c.in_err-serve_to_end.field-0.0 _ _
+    c.from_residual-in_err-serve_to_end.ensures.1

@@ -45,3 +45,23 @@ returns-clause-before_answer c = refl
 pub returns-clause-collision : goal.returns-clause-collision
 unfolding computed_remarks
 returns-clause-collision c = refl
+
+pub returns-clause-from_messages : goal.returns-clause-from_messages
+unfolding computed_remarks
+returns-clause-from_messages c = refl
+
+pub returns-clause-from_polls : goal.returns-clause-from_polls
+unfolding computed_remarks
+returns-clause-from_polls c = refl
+
+pub returns-clause-from_doubts : goal.returns-clause-from_doubts
+unfolding computed_remarks
+returns-clause-from_doubts c = refl
+
+pub returns-clause-from_enquiry : goal.returns-clause-from_enquiry
+unfolding computed_remarks
+returns-clause-from_enquiry c = refl
+
+pub returns-clause-from_messages_to_release : goal.returns-clause-from_messages_to_release
+unfolding computed_remarks
+returns-clause-from_messages_to_release c = refl

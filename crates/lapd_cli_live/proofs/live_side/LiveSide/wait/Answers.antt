@@ -20,6 +20,8 @@ returns g c =
           (c.in_ok-flush.ensures.shown (side_of c.args.self.now.side)) adds
           c.in_ok-woken.ensures.impaired_by;
       now = c.in_ok-read_clock.field-0;
+      read_to = _;
       reads = c.in_ok-read_clock.ensures;
+      prints = c.in_ok-put_loss.ensures;
       is = c.end_by_wait.ensures;
     }

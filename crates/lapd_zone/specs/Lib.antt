@@ -1,0 +1,3 @@
+pub mod Calendar
+pub mod Rule
+pub mod Zone
