@@ -135,17 +135,15 @@ pub(crate) fn is_expected(
     digits: &[u8],
     octets: &[u8],
 ) -> bool {
-    match Received::read(values, octets) {
-        Some(frame) => {
-            let mut trial = *values;
-            let fits = fits(&mut trial, pattern, digits, &frame);
-            if fits {
-                *values = trial;
-            }
-            fits
-        }
-        None => false,
+    let Some(frame) = Received::read(values, octets) else {
+        return false;
+    };
+    let mut trial = *values;
+    let fits = fits(&mut trial, pattern, digits, &frame);
+    if fits {
+        *values = trial;
     }
+    fits
 }
 
 fn fits(values: &mut Values, pattern: Pattern, digits: &[u8], frame: &Received<'_>) -> bool {
@@ -210,20 +208,11 @@ fn fits_management(
     fields: &Fields,
     frame: &Received<'_>,
 ) -> bool {
-    match frame.management() {
-        Some(message) => {
-            message.kind == kind
-                && fits_reference(values, fields, message.reference)
-                && values.fits(
-                    fields.action_indicator,
-                    u16::from(message.action_indicator),
-                    128,
-                )
-        }
-        None => false,
-    }
-}
-
-fn fits_reference(values: &mut Values, fields: &Fields, reference: u16) -> bool {
-    values.fits(fields.reference, reference, 0)
+    let Some(message) = frame.management() else {
+        return false;
+    };
+    let indicator = u16::from(message.action_indicator);
+    message.kind == kind
+        && values.fits(fields.reference, message.reference, 0)
+        && values.fits(fields.action_indicator, indicator, 128)
 }

@@ -147,7 +147,10 @@ impl<'s> Player<'s> {
             Step::Expect(_) => self.expect(station, line),
             Step::Quiet(span) => self.quiet(station, span),
             Step::Pause(span) => self.pause(station, span),
-            Step::Allow(_) => self.allow(line),
+            Step::Allow(_) => {
+                self.allowed.extend_from_slice(&[line])?;
+                Ok(())
+            }
             Step::Forget => {
                 self.allowed.clear();
                 Ok(())
@@ -163,11 +166,6 @@ impl<'s> Player<'s> {
             Step::Case(_) | Step::Clause | Step::Ends(_) | Step::Needs(_) => Ok(()),
             Step::Or(_) | Step::And(_) | Step::At(_) | Step::Within(_) => Ok(()),
         }
-    }
-
-    fn allow(&mut self, line: Line<'s>) -> Result<(), Stop> {
-        append(&mut self.allowed, line)?;
-        Ok(())
     }
 
     fn begin_repetition(&mut self, number: Number) {
@@ -319,8 +317,7 @@ impl<'s> Player<'s> {
     /// Receives a frame until this moment, and writes it down. Returns its place.
     fn receive<S: Station>(&mut self, station: &mut S, until: u64) -> Result<Option<usize>, Stop> {
         let mut octets = Vec::new(self.alloc);
-        let received = station.receive(until, &mut octets)?;
-        if !received {
+        if !station.receive(until, &mut octets)? {
             return Ok(None);
         }
         let at = station.now();
@@ -460,7 +457,7 @@ impl<'s> Player<'s> {
             timer: None,
             within: None,
         };
-        append(&mut answer.frames, line)?;
+        answer.frames.extend_from_slice(&[line])?;
         self.collect(&mut answer)?;
         if answer.all {
             self.expect_all(station, &mut answer)
@@ -474,15 +471,13 @@ impl<'s> Player<'s> {
     /// Adds the lines that belong to the expectation.
     fn collect(&mut self, answer: &mut Answer<'s>) -> Result<(), Stop> {
         for _turn in 0..MOST_ALTERNATIVES {
-            match self.lines.get(self.place) {
-                Some(numbered) => {
-                    if !answer.add(numbered.line)? {
-                        return Ok(());
-                    }
-                    self.place = self.place.saturating_add(1);
-                }
-                None => return Ok(()),
+            let Some(numbered) = self.lines.get(self.place) else {
+                return Ok(());
+            };
+            if !answer.add(numbered.line)? {
+                return Ok(());
             }
+            self.place = self.place.saturating_add(1);
         }
         Ok(())
     }
@@ -533,37 +528,24 @@ impl<'s> Player<'s> {
         }
     }
 
-    /// Checks that the frame at this place is one of those that are expected.
-    fn compare(&mut self, answer: &Answer<'_>, place: usize) -> Result<(), Stop> {
-        match self.place_of(answer, place) {
-            Some(_) => Ok(()),
-            None => Err(Stop::Missed(Reason::Unexpected)),
-        }
-    }
-
-    /// The first expected frame that the frame at this place fits.
-    fn place_of(&mut self, answer: &Answer<'_>, place: usize) -> Option<usize> {
+    /// The first expected frame that the frame at this place fits, or an error if there is none.
+    fn compare(&mut self, answer: &Answer<'_>, place: usize) -> Result<usize, Stop> {
         for index in 0..answer.frames.len() {
             let line = answer.frames[index];
             if let Some(pattern) = pattern_of(line.step)
                 && self.fits(pattern, line.text, place)
             {
-                return Some(index);
+                return Ok(index);
             }
         }
-        None
+        Err(Stop::Missed(Reason::Unexpected))
     }
 
     fn fits(&mut self, pattern: Pattern, digits: &[u8], place: usize) -> bool {
-        match self.happenings.get(place) {
-            Some(happening) => is_expected(
-                &mut self.values,
-                pattern,
-                digits,
-                happening.octets.as_slice(),
-            ),
-            None => false,
-        }
+        let mut values = self.values;
+        let fits = is_expected(&mut values, pattern, digits, self.octets(place));
+        self.values = values;
+        fits
     }
 
     /// Expects a frame when a timer expires.
@@ -609,16 +591,12 @@ impl<'s> Player<'s> {
                 return Ok(());
             }
             let until = self.mark.saturating_add(self.patience(station));
-            match self.next(station, until)? {
-                Some(place) => match self.place_of(answer, place) {
-                    Some(index) => {
-                        answer.remove(index);
-                        self.pass(place, until);
-                    }
-                    None => return Err(Stop::Missed(Reason::Unexpected)),
-                },
-                None => return Err(Stop::Missed(Reason::Missing)),
-            }
+            let Some(place) = self.next(station, until)? else {
+                return Err(Stop::Missed(Reason::Missing));
+            };
+            let index = self.compare(answer, place)?;
+            answer.remove(index);
+            self.pass(place, until);
         }
         Ok(())
     }
@@ -655,11 +633,6 @@ impl<'s> Answer<'s> {
             let _ = self.frames.remove(index);
         }
     }
-}
-
-fn append<'s>(lines: &mut Vec<Line<'s>>, line: Line<'s>) -> Result<(), AllocError> {
-    lines.push(line)?;
-    Ok(())
 }
 
 /// The frame that a line of an expectation names.

@@ -53,9 +53,20 @@ impl Player<'_> {
         }
     }
 
-    /// The moment this much later.
-    fn later<S: Station>(&self, station: &S, time: u64) -> u64 {
-        station.now().saturating_add(time)
+    /// The moment until which an answer is awaited that the stack gives within this time.
+    fn until<S: Station>(&self, station: &S, time: u64) -> u64 {
+        let wait = time.saturating_add(self.slack(station));
+        station.now().saturating_add(wait)
+    }
+
+    /// This many times T200.
+    fn times_t200(&self, count: u64) -> u64 {
+        self.duration(Timer::T200).saturating_mul(count)
+    }
+
+    /// Sends a response with this control field.
+    fn respond<S: Station>(&mut self, station: &mut S, field: &[u8]) -> Result<(), Stop> {
+        self.send_octets(station, Role::Answer, field)
     }
 
     /// State 4: DISC until UA or DM with F=1.
@@ -74,20 +85,15 @@ impl Player<'_> {
 
     /// Waits for the answer to DISC. Answers DISC and SABME of the stack meanwhile.
     fn is_released<S: Station>(&mut self, station: &mut S) -> Result<bool, Stop> {
-        let patience = (self.duration(Timer::T200).saturating_mul(2)).max(1_250);
-        let until = self.later(station, patience.saturating_add(self.slack(station)));
+        let until = self.until(station, self.times_t200(2).max(1_250));
         let mut crossed = false;
         for _turn in 0..MOST_FRAMES {
             match self.next_kind(station, until)? {
                 Some((Role::Command, Kind::Sabme, _)) => {
-                    self.send_octets(station, Role::Answer, DM)?;
+                    self.respond(station, DM)?;
                     crossed = true;
                 }
-                Some((Role::Command, Kind::Disconnect, _)) => self.send_octets(
-                    station,
-                    Role::Answer,
-                    UA,
-                )?,
+                Some((Role::Command, Kind::Disconnect, _)) => self.respond(station, UA)?,
                 Some((Role::Answer, Kind::UnnumberedAcknowledgement, true)) if !crossed => {
                     self.was_linked = true;
                     return Ok(true);
@@ -130,18 +136,15 @@ impl Player<'_> {
 
     /// Answers the next SABME by DM, and the next DISC by UA. `false` if none comes for T200.
     fn answers_request<S: Station>(&mut self, station: &mut S) -> Result<bool, Stop> {
-        let wait = self
-            .duration(Timer::T200)
-            .saturating_add(self.slack(station));
-        let until = self.later(station, wait);
+        let until = self.until(station, self.times_t200(1));
         for _turn in 0..MOST_FRAMES {
             match self.next_kind(station, until)? {
                 Some((Role::Command, Kind::Sabme, _)) => {
-                    self.send_octets(station, Role::Answer, DM)?;
+                    self.respond(station, DM)?;
                     return Ok(true);
                 }
                 Some((Role::Command, Kind::Disconnect, _)) => {
-                    self.send_octets(station, Role::Answer, UA)?;
+                    self.respond(station, UA)?;
                     return Ok(true);
                 }
                 Some(_) => {}
@@ -153,7 +156,7 @@ impl Player<'_> {
 
     /// Waits until no frame of the stack is in transit.
     fn drain<S: Station>(&mut self, station: &mut S) -> Result<(), Stop> {
-        let until = self.later(station, self.slack(station));
+        let until = self.until(station, 0);
         for _turn in 0..MOST_FRAMES {
             if self.next(station, until)?.is_none() {
                 return Ok(());
@@ -197,17 +200,12 @@ impl Player<'_> {
     }
 
     fn is_established<S: Station>(&mut self, station: &mut S) -> Result<bool, Stop> {
-        let patience = self
-            .duration(Timer::T200)
-            .saturating_add(self.slack(station));
-        let until = self.later(station, patience);
+        let until = self.until(station, self.times_t200(1));
         for _turn in 0..MOST_FRAMES {
             match self.next_kind(station, until)? {
-                Some((Role::Command, Kind::Sabme | Kind::Disconnect, _)) => self.send_octets(
-                    station,
-                    Role::Answer,
-                    UA,
-                )?,
+                Some((Role::Command, Kind::Sabme | Kind::Disconnect, _)) => {
+                    self.respond(station, UA)?;
+                }
                 Some((Role::Answer, Kind::UnnumberedAcknowledgement, true)) => return Ok(true),
                 Some(_) => {}
                 None => return Ok(false),
@@ -219,19 +217,16 @@ impl Player<'_> {
     /// Answers a SABME that crossed. A message of layer 3 ends the case. If SABME was sent again, each
     /// of them is answered, as late as the first one.
     fn settle<S: Station>(&mut self, station: &mut S, is_repeated: bool) -> Result<(), Stop> {
-        let wait = if is_repeated {
-            self.slack(station)
+        let until = if is_repeated {
+            self.until(station, 0)
         } else {
-            self.transit().saturating_add(60)
+            station
+                .now()
+                .saturating_add(self.transit().saturating_add(60))
         };
-        let until = self.later(station, wait);
         for _turn in 0..MOST_FRAMES {
             match self.next_kind(station, until)? {
-                Some((Role::Command, Kind::Sabme, _)) => self.send_octets(
-                    station,
-                    Role::Answer,
-                    UA,
-                )?,
+                Some((Role::Command, Kind::Sabme, _)) => self.respond(station, UA)?,
                 Some((Role::Command, Kind::Information, _)) => return missed(Preamble::Established),
                 Some(_) => {}
                 None => return Ok(()),
@@ -240,17 +235,11 @@ impl Player<'_> {
         Ok(())
     }
 
-    /// Waits for a frame of this role and kind.
-    fn await_kind<S: Station>(
-        &mut self,
-        station: &mut S,
-        time: u64,
-        role: Role,
-        kind: Kind,
-    ) -> Result<bool, Stop> {
-        let until = self.later(station, time.saturating_add(self.slack(station)));
+    /// Whether the next frame of the link is this command, and is sent within this many times T200.
+    fn sends<S: Station>(&mut self, station: &mut S, kind: Kind, count: u64) -> Result<bool, Stop> {
+        let until = self.until(station, self.times_t200(count));
         match self.next_kind(station, until)? {
-            Some((seen, other, _)) => Ok(seen == role && other == kind),
+            Some((role, seen, _)) => Ok(role == Role::Command && seen == kind),
             None => Ok(false),
         }
     }
@@ -262,21 +251,18 @@ impl Player<'_> {
         }
         self.release(station)?;
         self.ask_of_link(station, Request::Establish)?;
-        let time = self.duration(Timer::T200).saturating_mul(2);
-        if self.await_kind(station, time, Role::Command, Kind::Sabme)? {
-            Ok(())
-        } else {
-            missed(Preamble::AwaitingEstablishment)
-        }
+        reached(
+            self.sends(station, Kind::Sabme, 2)?,
+            Preamble::AwaitingEstablishment,
+        )
     }
 
     /// State 5: DM with F=0 in state 7, else FRMR. Then the data link requests the establishment.
     fn line_establishes<S: Station>(&mut self, station: &mut S) -> Result<(), Stop> {
         for field in [DM_F0, FRMR_F0] {
             self.establish(station)?;
-            self.send_octets(station, Role::Answer, field)?;
-            let time = self.duration(Timer::T200).saturating_mul(2);
-            if self.await_kind(station, time, Role::Command, Kind::Sabme)? {
+            self.respond(station, field)?;
+            if self.sends(station, Kind::Sabme, 2)? {
                 return Ok(());
             }
             // Other cases test how the stack takes this frame, so the dialogue begins anew.
@@ -291,37 +277,34 @@ impl Player<'_> {
     fn await_release<S: Station>(&mut self, station: &mut S) -> Result<(), Stop> {
         self.establish(station)?;
         self.ask_of_link(station, Request::Release)?;
-        let time = self.duration(Timer::T200).saturating_mul(4);
-        if self.await_kind(station, time, Role::Command, Kind::Disconnect)? {
-            Ok(())
-        } else {
-            missed(Preamble::AwaitingRelease)
-        }
+        reached(
+            self.sends(station, Kind::Disconnect, 4)?,
+            Preamble::AwaitingRelease,
+        )
     }
 
     /// State 8: RNR, and T200 expires. RR with F=0 then ends the busy condition, not the state.
     fn recover<S: Station>(&mut self, station: &mut S) -> Result<(), Stop> {
         self.establish(station)?;
-        self.send_octets(station, Role::Answer, RNR_F0)?;
+        self.respond(station, RNR_F0)?;
         self.await_poll(station)?;
-        self.send_octets(station, Role::Answer, RR_F0)
+        self.respond(station, RR_F0)
     }
 
     /// State 8 with one I frame outstanding: T200 expires.
     fn recover_with_one<S: Station>(&mut self, station: &mut S) -> Result<(), Stop> {
         self.establish(station)?;
         self.ask_of_link(station, Request::Give)?;
-        let time = self.duration(Timer::T200).saturating_mul(4);
-        if !self.await_kind(station, time, Role::Command, Kind::Information)? {
-            return missed(Preamble::OneOutstanding);
-        }
+        reached(
+            self.sends(station, Kind::Information, 4)?,
+            Preamble::OneOutstanding,
+        )?;
         self.await_poll(station)
     }
 
     /// Waits for a command with P=1: RR, RNR or the last I frame.
     fn await_poll<S: Station>(&mut self, station: &mut S) -> Result<(), Stop> {
-        let time = self.duration(Timer::T200).saturating_mul(4);
-        let until = self.later(station, time.saturating_add(self.slack(station)));
+        let until = self.until(station, self.times_t200(4));
         match self.next_kind(station, until)? {
             Some(
                 (
@@ -363,7 +346,7 @@ impl Player<'_> {
         for turn in 0..MOST_TRIES {
             let reference = (station.now() % 1_000) as u16 + turn * 1_000;
             self.send_management(station, 1, reference, GROUP)?;
-            let until = self.later(station, self.slack(station).saturating_add(2_000));
+            let until = self.until(station, 2_000);
             if let Some((_, tei)) = self.next_management(
                 station,
                 until,
@@ -386,7 +369,7 @@ impl Player<'_> {
         if self.values.stack.requests.ask {
             self.ask_of_link(station, Request::Ask)?;
         }
-        let until = self.later(station, self.slack(station).saturating_add(6_000));
+        let until = self.until(station, 6_000);
         match self.next_management(station, until, TeiKind::Request, None)? {
             Some((reference, _)) => {
                 self.send_management(station, 2, reference, ASSIGNED)?;
@@ -448,6 +431,11 @@ impl Player<'_> {
         ])?;
         self.put(station, octets)
     }
+}
+
+/// Whether the preamble led into this state.
+fn reached(is_reached: bool, state: Preamble) -> Result<(), Stop> {
+    if is_reached { Ok(()) } else { missed(state) }
 }
 
 /// The preamble did not lead into this state.
