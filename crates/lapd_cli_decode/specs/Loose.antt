@@ -50,11 +50,17 @@ is_parted (octet ∷ octets) = is_separator octet
 abbrev pub loose_behind : LineSender → List ℕ → Option (LineSender × List ℕ)
 loose_behind from rest = if is_parted rest then sent_by from (loose_octets rest) else None
 
+-- without leading spaces and tabs
+abbrev pub without_front : List ℕ → List ℕ
+without_front [] = []
+without_front (octet ∷ octets) =
+    if (octet == 32) || (octet == 9) then without_front octets else octet ∷ octets
+
 -- an information element, which libpri prints as `> [04 03 80 90 a3]`: no space is behind its
--- bracket
+-- bracket; or a closing bracket alone, which ends one
 abbrev pub is_element : List ℕ → Bool
-is_element rest =
-    bytes_eq (take 2 rest) (codes " [") && not (bytes_eq (take 3 rest) (codes " [ "))
+is_element rest = bytes_eq (take 1 (without_front rest)) (codes "]")
+    || (bytes_eq (take 2 rest) (codes " [") && not (bytes_eq (take 3 rest) (codes " [ ")))
 
 abbrev pub marked_line : LineSender → List ℕ → Option (LineSender × List ℕ)
 marked_line from rest = if is_element rest then None else loose_behind from rest
@@ -111,12 +117,6 @@ logged_line [] = None
 logged_line (octet ∷ octets) = first_of (bracketed (octet ∷ octets)) (logged_line octets)
 
 -- ---- 3. A line of a hex dump: an offset, HEX, and perhaps a column of text.
-
--- without leading spaces and tabs
-abbrev pub without_front : List ℕ → List ℕ
-without_front [] = []
-without_front (octet ∷ octets) =
-    if (octet == 32) || (octet == 9) then without_front octets else octet ∷ octets
 
 -- the text before these spaces, which end HEX; all of it if they are not in it
 abbrev pub before_gap : List ℕ → List ℕ → List ℕ

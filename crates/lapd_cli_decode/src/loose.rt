@@ -119,10 +119,14 @@ fn marked_line(alloc: Global, from: LineSender, rest: &[u8]) -> Result<Sent, Lin
     loose_behind(alloc, from, rest)
 }
 
-/// Whether this is an information element of Q.931, as libpri prints it after a mark.
+/// Whether this is an information element of Q.931, or the end of one, as libpri prints it after a
+/// mark.
 fn is_element(rest: &[u8]) -> bool
     ensures { result ≡ is_element rest.now }
 {
+    if without_front(rest).starts_with(b"]") {
+        return true;
+    }
     rest.starts_with(b" [") && !rest.starts_with(b" [ ")
 }
 
