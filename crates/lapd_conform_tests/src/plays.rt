@@ -217,7 +217,7 @@ fn no_case_fails(alloc: Global, is_kept: bool, delay: u32, most: u32) -> Result<
             let (failed, doubted) = (tally.failed.as_str(), tally.doubted.as_str());
             let lacking = tally.not_applicable;
             return Err(Fail::new(format_args!(
-                "{passed} passed, {inconclusive} inconclusive:{doubted}, {lacking} n/a, failed:{failed}"
+                "failed:{failed}; {passed} passed, {lacking} n/a, {inconclusive} inconclusive:{doubted}"
             )));
         }
     }
@@ -268,7 +268,7 @@ fn no_case_fails_if_the_stack_begins_late(rt: HostRuntime) -> Result<(), Fail> {
     let (passed, inconclusive) = (tally.passed, tally.inconclusive);
     let (failed, doubted) = (tally.failed.as_str(), tally.doubted.as_str());
     Err(Fail::new(format_args!(
-        "{passed} passed, {inconclusive} inconclusive:{doubted}, failed:{failed}"
+        "failed:{failed}; {passed} passed, {inconclusive} inconclusive:{doubted}"
     )))
 }
 
