@@ -231,4 +231,12 @@ expect C SABME P=1
 at T200
 end
 quiet 150 %T200
+
+case 5-T-04 after UA an idle line is polled after T203
+clause 5.10, 5.5.1.2
+needs t203
+state 5
+send R UA F=1
+expect C RR N(R)=0 P=1
+at T203
 ";

@@ -26,7 +26,7 @@ state 7
 do give 2
 expect C I N(S)=0
 expect C I N(S)=1
-pause 60 %T200
+pause 40 %T200
 send R RR N(R)=1 F=0
 expect C RR N(R)=0 P=1
 or C I N(S)=1 N(R)=0 P=1
@@ -65,5 +65,33 @@ send R REJ N(R)=0 F=0
 expect C I N(S)=0 N(R)=0 P=0
 expect C RR N(R)=0 P=1
 or C I N(S)=0 N(R)=0 P=1
+at T200
+
+case 7-T-06 a message waits for the answer to a poll of T203
+clause 5.10, 5.6.1
+needs give
+needs t203
+state 7
+expect C RR N(R)=0 P=1
+at T203
+do give
+quiet 300 ms
+send R RR N(R)=0 F=1
+expect C I N(S)=0 N(R)=0 P=0
+
+case 7-T-07 a partial acknowledgement starts T200 anew while a message waits
+clause 5.6.3.2
+needs give
+needs k>1
+state 7
+do give K+1
+repeat K
+expect C I
+end
+pause 40 %T200
+send R RR N(R)=1 F=0
+expect C I N(S)=K N(R)=0 P=0
+expect C RR N(R)=0 P=1
+or C I N(S)=K N(R)=0 P=1
 at T200
 ";

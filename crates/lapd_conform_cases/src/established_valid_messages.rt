@@ -216,4 +216,19 @@ send C I N(S)=0 N(R)=1 P=0
 expect ack 1
 send R RR N(R)=2 F=0
 quiet 140 %T200
+
+case 7-V-42 after SABME while a message is out, only the new one is sent again
+clause 5.5.1.2, 5.6.4
+needs give
+needs k>1
+state 7
+do give
+expect C I N(S)=0
+send C SABME P=1
+expect R UA F=1
+do give
+expect C I N(S)=0 N(R)=0 P=0
+send R REJ N(R)=0 F=0
+expect C I N(S)=0 N(R)=0 P=0
+quiet 300 ms
 ";

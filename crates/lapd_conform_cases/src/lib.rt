@@ -1,9 +1,9 @@
-//! The cases of the conformance suite, as text: 245 cases for LAPD stacks, each with its clause of
+//! The cases of the conformance suite, as text: 252 cases for LAPD stacks, each with its clause of
 //! ITU-T Q.921 (09/97).
 //!
 //! docs/CONFORM.md describes the text, line by line. A file has the cases of one state, or of TEI
 //! management. Names rise, by state, class and number, from the first part to the last. A tester
-//! executes a case over the line with the stack under test; 157 cases need no upper tester.
+//! executes a case over the line with the stack under test; 159 cases need no upper tester.
 #![tactic(auto)]
 
 mod assign_awaiting_tei;

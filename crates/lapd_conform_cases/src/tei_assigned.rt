@@ -101,6 +101,18 @@ expect R UA F=0
 send C I N(S)=0 N(R)=0 P=1
 expect R RR N(R)=1 F=1
 
+case 4-V-13 a busy condition ends by release and establishment
+clause 5.5.1.2
+needs give
+state 7
+send R RNR N(R)=0 F=0
+send C DISC P=1
+expect R UA F=1
+send C SABME P=1
+expect R UA F=1
+do give
+expect C I N(S)=0 N(R)=0 P=0
+
 case 4-O-01 RR, RNR, REJ commands with P=1 are discarded
 clause 5.5.4
 state 4

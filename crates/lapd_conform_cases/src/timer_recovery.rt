@@ -405,4 +405,25 @@ at T200
 end
 expect C SABME P=1
 at T200
+
+case 8-T-02 T200 runs for a message that waited for the answer to the poll
+clause 5.6.1, 5.6.7
+needs give
+needs k>1
+state 8-out
+do give
+quiet 300 ms
+send R RR N(R)=1 F=1
+expect C I N(S)=1 N(R)=0 P=0
+expect C RR N(R)=0 P=1
+or C I N(S)=1 N(R)=0 P=1
+at T200
+
+case 8-T-03 RNR with F=1 starts T200 anew
+clause 5.6.5, 5.6.7
+state 8
+pause 20 %T200
+send R RNR N(R)=0 F=1
+expect C RR N(R)=0 P=1
+at T200
 ";
