@@ -1,4 +1,4 @@
--- What is learned of a direction is so.
+-- Each event at the listener keeps the learned numbers those of the ends.
 use Rattle.std.proofs.Common.{◌≡◌, ◌<◌, ◌≤◌, ℕ, ◌+◌, ◌==◌, ◌&&◌, nat_le, nat_lt, cond, Bool, true, false, List, [], ◌∷◌, Some, None, refl, sym, subst, arith}
 use Rattle.std.proofs.lemmas.Bool.Decides.{nat_tests}
 use Rattle.lapd_mod128.specs.Counting.{Tagged, tag, after, steps, lies_within, AreNear}

@@ -1,4 +1,4 @@
--- What is learned of both directions of a link is so, and then the link is in step.
+-- The numbers learned for both directions of a link are those of its ends, so the link is in step.
 use Rattle.std.proofs.Common.{◌≡◌, ℕ, Bool, true, false, Some, refl, is_some}
 use Rattle.std.proofs.lemmas.Bool.{false≢true}
 use Rattle.lapd_frame.specs.declared.Role.{Role}

@@ -60,7 +60,7 @@ pub record Acknowledges (is_answer : Bool) (nr : ℕ) (d e : Direction) : Type 0
   pub sent : d.sent ≤ e.sent
   pub right : IsRight e
 
--- what passes the listener: nothing, an N(S) with its P bit, or an N(R)
+-- an event at the listener: nothing, an N(S) with its P bit, or an N(R)
 pub data Passing : Type 0 where
   Silence : Passing
   Message : ℕ → Bool → Passing
@@ -75,7 +75,7 @@ abbrev pub PassAll : List Passing → Direction → Direction → Type 0
 PassAll [] d e = d ≡ e
 PassAll (s ∷ rest) d e = (c : Direction) × Passes s d c × PassAll rest c e
 
--- what is learned of the tags
+-- the listener's knowledge after an event, learned from tags alone
 abbrev pub learned_after : Passing → Learned → Learned
 learned_after Silence learned = learned
 learned_after (Message ns p) learned = after_ns (tag ns) p learned
@@ -85,9 +85,9 @@ abbrev pub learned_after_all : List Passing → Learned → Learned
 learned_after_all [] learned = learned
 learned_after_all (s ∷ rest) learned = learned_after_all rest (learned_after s learned)
 
--- What is learned is so. The next N(S) is the tag of a number that V(R) of the peer does not exceed,
--- even when all I frames that passed the listener have arrived, and up to which the end has sent.
--- Once the numbers are fixed, the last N(R) is known too.
+-- The learned numbers are those of the ends. The next N(S) is the tag of a number that V(R) of the
+-- peer does not exceed, even when all I frames that passed the listener have arrived, and up to
+-- which the end has sent. Once the numbers are fixed, the last N(R) is known too.
 pub record Bounds (next : ℕ) (d : Direction) : Type 0 where
   pub whole : ℕ
   pub tagged : next ≡ tag whole

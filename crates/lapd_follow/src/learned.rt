@@ -5,8 +5,7 @@ ghost use Rattle.lapd_follow.specs.Learning.{after_ns, after_nr, after_response,
 use crate::Numbering;
 use lapd_mod128::Seq;
 
-/// What the frames show of the I frames of one end and of their acknowledgements, while the numbers
-/// of its link are not known.
+/// The numbers of one end that its frames have shown so far, while those of its link are unknown.
 #[derive(Clone, Copy, Debug, PartialEq, Eq)]
 pub(crate) enum Learned {
     /// Nothing.

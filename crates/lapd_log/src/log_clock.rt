@@ -21,7 +21,7 @@ const NEXT_YEAR: u64 = 183 * DAY;
 pub(crate) struct LogClock {
     /// The year of the next time without one.
     year: u64,
-    /// What is added to times without a date, in microseconds: whole days.
+    /// The offset of times without a date: whole days, in microseconds.
     days: u64,
     /// The last time, in microseconds since 1970.
     last: Option<u64>,

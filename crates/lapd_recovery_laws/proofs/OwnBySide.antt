@@ -1,4 +1,5 @@
--- What an own move says of the side that makes it, and the same of the sides exchanged.
+-- A successful move of a side shows its state: which timer runs, that it is established. The same
+-- holds with the sides exchanged.
 use Rattle.std.proofs.Common.{◌≡◌, ℕ, not, ◌&&◌, ◌||◌, if◌then◌else◌, Bool, true, false, List, [], Option, Some, None, Result, Err, is_ok, refl, sym, ap, ◌∙◌}
 use Rattle.lapd_timers.specs.declared.timer.Timer.TheVariants.{T200}
 use Rattle.lapd_frame.specs.declared.Side.{Side}
