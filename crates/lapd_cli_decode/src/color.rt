@@ -1,6 +1,6 @@
 //! Colors of printed lines, by the escape sequences of terminals (ECMA-48 8.3.117).
 
-ghost use Rattle.std.specs.Prelude.{◌≡◌, ◌++◌, IfOk, OnOk};
+ghost use Rattle.std.specs.Prelude.{◌≡◌, ◌++◌, true, IfOk, OnOk};
 ghost use Rattle.std.specs.String.{string_bytes};
 ghost use Rattle.lapd_cli_script.specs.Line.{text_line};
 ghost use Rattle.lapd_cli_decode.specs.Color.{color_end, color_of, color_of_sender, colored};
@@ -26,7 +26,6 @@ const END: &str = "\x1b[0m";
 /// # Errors
 ///
 /// `Memory` if an allocation fails, before anything is printed; `Device` if the writer fails.
-#[tactic(auto, using(crate::proofs::Colored::named_beside, crate::proofs::Colored::brief_beside))]
 pub(crate) fn put_colored<W: Write>(
     alloc: Global,
     is_colored: bool,
@@ -42,9 +41,30 @@ pub(crate) fn put_colored<W: Write>(
         (remarked style (said_if is_followed said.now) (string_bytes text.old)))) result
         (W.contents out.old) (W.contents out.new) }
 {
-    if !is_colored {
-        return put_frame(alloc, style, text, is_followed, said, out);
+    if is_colored {
+        put_in_colors(alloc, style, from, text, is_followed, said, out)
+    } else {
+        put_frame(alloc, style, text, is_followed, said, out)
     }
+}
+
+/// The same with colors. It is not inlined, so that its copy of the remarks takes no time without.
+#[inline(never)]
+#[tactic(auto, using(crate::proofs::Colored::named_beside, crate::proofs::Colored::brief_beside))]
+fn put_in_colors<W: Write>(
+    alloc: Global,
+    style: Style,
+    from: Option<Side>,
+    text: &mut String,
+    is_followed: bool,
+    said: &Remarks,
+    out: &mut W,
+) -> Result<(), LineFault>
+    ensures { RemarkedEnds (text_line (colored true style
+        (color_of from (said_if is_followed said.now))
+        (remarked style (said_if is_followed said.now) (string_bytes text.old)))) result
+        (W.contents out.old) (W.contents out.new) }
+{
     let color = color_of(from, is_followed, said);
     match style {
         Style::Plain => put_in_color(alloc, color, text.as_str(), is_followed, said, out),

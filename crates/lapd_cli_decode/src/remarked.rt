@@ -1,12 +1,13 @@
 //! The line of a frame with the remarks of a listener.
 
-ghost use Rattle.std.specs.Prelude.{◌≡◌, ◌++◌, Some, IfOk, OnOk};
+ghost use Rattle.std.specs.Prelude.{◌≡◌, ◌++◌, true, Some, IfOk, OnOk};
 ghost use Rattle.std.specs.Io.KnownBytes.{Appends, Keeps};
 ghost use Rattle.std.specs.String.{string_bytes};
 ghost use Rattle.lapd_cli_script.specs.Line.{text_line};
 ghost use Rattle.lapd_cli_decode.specs.Frames.{said_if};
 ghost use Rattle.lapd_cli_decode.specs.Remarked.{listed, object_or_none, remark_objects, remarked, remarks_member, with_remarks, RemarkedEnds};
 ghost use Rattle.lapd_follow.specs.Texts.{remarks_text};
+ghost use Rattle.lapd_cli_ladder.specs.Words.{said_beside};
 
 use crate::style::Style;
 use lapd_cli_ladder::said_beside;
@@ -77,9 +78,20 @@ fn put_remarked<W: Write>(
 {
     match style {
         Style::Plain => put_trace(text, said, out),
-        Style::Named | Style::Brief => put_trace(text, &said_beside(true, said), out),
+        Style::Named | Style::Brief => put_beside(text, said, out),
         Style::Json | Style::NamedJson => put_object(alloc, text.as_bytes(), said, out),
     }
+}
+
+/// Appends the remarks to the trace line of their frame, which has the name of its message, and
+/// prints it. It is not inlined, so that its copy of the remarks takes no time in other styles.
+#[inline(never)]
+fn put_beside<W: Write>(text: &mut String, said: &Remarks, out: &mut W) -> Result<(), LineFault>
+    ensures { RemarkedEnds (text_line (string_bytes text.old
+        ++ remarks_text (said_beside true said.now))) result (W.contents out.old)
+        (W.contents out.new) }
+{
+    put_trace(text, &said_beside(true, said), out)
 }
 
 /// Appends the remarks to the trace line of their frame, and prints it.
@@ -87,9 +99,11 @@ fn put_trace<W: Write>(text: &mut String, said: &Remarks, out: &mut W) -> Result
     ensures { RemarkedEnds (text_line (string_bytes text.old ++ remarks_text said.now)) result
         (W.contents out.old) (W.contents out.new) }
 {
-    let Ok(()) = write!(text, "{said}") else {
-        return Err(LineFault::Memory);
-    };
+    if !said.is_empty() {
+        let Ok(()) = write!(text, "{said}") else {
+            return Err(LineFault::Memory);
+        };
+    }
     put_line(text.as_bytes(), &[], out)
 }
 

@@ -6,5 +6,6 @@ pub mod Kept
 pub mod Middles
 pub mod NthTimes
 pub mod Octets
+pub mod Silent
 pub mod Turned
 pub mod TwoDirections

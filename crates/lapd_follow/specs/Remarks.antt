@@ -1,5 +1,5 @@
 -- The remarks on the next frame, by the state of both ends before it, and the class of each remark.
-use Rattle.std.specs.Prelude.{ℕ, ◌-◌, ◌==◌, ◌&&◌, ◌||◌, nat_lt, nat_le, if◌then◌else◌, Bool, true, false, List, Option, Some, None, is_some}
+use Rattle.std.specs.Prelude.{ℕ, ◌-◌, ◌==◌, ◌&&◌, ◌||◌, nat_lt, nat_le, if◌then◌else◌, Bool, true, false, List, Option, Some, None, is_none, is_some}
 use Rattle.std.specs.Str.{bytes_eq}
 use Rattle.lapd_mod128.specs.Counting.{Tagged, steps, lies_within}
 use Rattle.lapd_frame.specs.declared.Role.{Role}
@@ -253,6 +253,12 @@ remarks_on k packet f x = record {
   identity = None;
   conflict = None;
 }
+
+-- there is no remark
+abbrev pub is_empty : Remarks → Bool
+is_empty r = is_none r.establishment && (is_none r.ns && (is_none r.window && (is_none r.busy
+    && (is_none r.nr && (is_none r.bit && (is_none r.answer && (is_none r.identity
+    && is_none r.conflict)))))))
 
 -- one of the remarks is a violation
 abbrev pub has_violation : Remarks → Bool

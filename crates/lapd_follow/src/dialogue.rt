@@ -11,8 +11,9 @@ use std::mem;
 /// Both ends, as the sender of the next frame sees them.
 #[derive(Drop)]
 pub(crate) struct Dialogue {
-    pub(crate) from: End,
-    pub(crate) to: End,
+    /// The ends are boxed, so that a change of the sender moves only pointers.
+    pub(crate) from: Box<End>,
+    pub(crate) to: Box<End>,
     pub(crate) establishments: u64,
     /// Whether the last one is known to last.
     pub(crate) is_established: bool,
@@ -24,8 +25,8 @@ impl Model for Dialogue {
     ghost Value = { Exchange };
 
     ghost view = { λ d. record {
-      from = d.from;
-      to = d.to;
+      from = d.from.value;
+      to = d.to.value;
       establishments = d.establishments;
       is_established = d.is_established;
     } };

@@ -39,8 +39,8 @@ impl LinkFollower {
             alloc,
             k,
             dialogue: Dialogue {
-                from: End::new(alloc)?,
-                to: End::new(alloc)?,
+                from: Box::new(alloc, End::new(alloc)?)?,
+                to: Box::new(alloc, End::new(alloc)?)?,
                 establishments: 0,
                 is_established: false,
             },

@@ -1,5 +1,5 @@
-ghost use Rattle.std.specs.Prelude.{◌≡◌, ◌<◌, ◌+◌, IfOk, OnOk, OnErr, replicate, None, length, map, option_copied, set, slice_get};
-ghost use Rattle.lapd_follow.specs.Link.{sighting};
+ghost use Rattle.std.specs.Prelude.{◌≡◌, ◌<◌, ◌+◌, IfOk, OnOk, OnErr, replicate, None, Some, length, map, option_copied, set, slice_get};
+ghost use Rattle.lapd_follow.specs.Link.{link_after, new_link, said_of, sighting};
 ghost use Rattle.lapd_follow.specs.Follower.{forgotten, new_links, no_link, place_of, said_on_links, links_after, seen_link, without_tei};
 
 use crate::{LinkFollower, Packet, Remarks};
@@ -64,12 +64,7 @@ impl LinkTable {
         };
         match slot {
             Some(link) => link.frame_into(packet, sender, frame, said),
-            None => {
-                let mut link = LinkFollower::new(self.alloc, self.k)?;
-                link.frame_into(packet, sender, frame, said)?;
-                *slot = Some(link);
-                Ok(())
-            }
+            None => begin_link(self.alloc, self.k, slot, packet, sender, frame, said),
         }
     }
 
@@ -110,6 +105,32 @@ impl LinkTable {
             forget_three(&mut self.links, usize::from(tei.value()));
         }
     }
+}
+
+/// Puts a new link into its place, and takes its first frame. On error nothing changes.
+///
+/// It is not inlined, so that its place for a link takes no time at later frames.
+#[inline(never)]
+fn begin_link(
+    alloc: Global,
+    k: Option<u8>,
+    slot: &mut Option<LinkFollower>,
+    packet: Packet,
+    sender: Side,
+    frame: &Frame<'_>,
+    said: &mut Remarks,
+) -> Result<(), AllocError>
+    ensures remarks { OnOk result
+        (said.new ≡ said_of (sighting packet sender frame.now) (new_link k)) }
+    ensures after { OnOk result
+        (slot.new ≡ Some (link_after (sighting packet sender frame.now) (new_link k))) }
+    ensures unchanged { OnErr result (slot.new ≡ slot.old) }
+    ensures no_remarks { OnErr result (said.new ≡ said.old) }
+{
+    let mut link = LinkFollower::new(alloc, k)?;
+    link.frame_into(packet, sender, frame, said)?;
+    *slot = Some(link);
+    Ok(())
 }
 
 /// Forgets all links.

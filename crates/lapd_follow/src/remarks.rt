@@ -1,9 +1,9 @@
-ghost use Rattle.std.specs.Prelude.{◌≡◌, ◌++◌, Option, Some};
+ghost use Rattle.std.specs.Prelude.{◌≡◌, ◌++◌, true, [], Option, Some};
 ghost use Rattle.std.specs.Fmt.{DisplaysOnOk};
 ghost use Rattle.lapd_frame.specs.Reading.{is_command};
 ghost use Rattle.lapd_follow.specs.Exchange.{Exchange};
 ghost use Rattle.lapd_follow.specs.Listening.{no_remarks};
-ghost use Rattle.lapd_follow.specs.Remarks.{unexpected_ua, ended, ua_remark, sent_remark, establishment_remark, repeated, out_of_sequence, ns_remark, is_in_window, k_or_most, window_remark, sent_to_busy, nr_remark, without_p, ua_bit, before_answer, bit_remark, time_from, answers_poll, answer_to, response_to, left_unanswered, supervisory_remark, answer_remark, ns_of, window_of, busy_of, nr_of, remarks_on, has_violation, is_violation};
+ghost use Rattle.lapd_follow.specs.Remarks.{unexpected_ua, ended, ua_remark, sent_remark, establishment_remark, repeated, out_of_sequence, ns_remark, is_in_window, k_or_most, window_remark, sent_to_busy, nr_remark, without_p, ua_bit, before_answer, bit_remark, time_from, answers_poll, answer_to, response_to, left_unanswered, supervisory_remark, answer_remark, ns_of, window_of, busy_of, nr_of, remarks_on, has_violation, is_empty, is_violation};
 ghost use Rattle.lapd_follow.specs.Texts.{noted_text, remarks_text};
 
 use crate::dialogue::Dialogue;
@@ -40,6 +40,7 @@ pub struct Remarks {
     pub conflict: Option<Remark>,
 }
 
+#[tactic(auto, using(crate::proofs::Silent::no_text))]
 impl Remarks {
     /// No remarks.
     pub fn none() -> Remarks
@@ -56,6 +57,22 @@ impl Remarks {
             identity: None,
             conflict: None,
         }
+    }
+
+    /// Whether there is no remark. Then nothing is printed of them.
+    pub fn is_empty(&self) -> bool
+        ensures value { result ≡ is_empty self.now }
+        ensures text { result ≡ true → remarks_text self.now ≡ [] }
+    {
+        self.establishment.is_none()
+            && self.ns.is_none()
+            && self.window.is_none()
+            && self.busy.is_none()
+            && self.nr.is_none()
+            && self.bit.is_none()
+            && self.answer.is_none()
+            && self.identity.is_none()
+            && self.conflict.is_none()
     }
 
     /// Whether one of them is a violation.
