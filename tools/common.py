@@ -35,9 +35,9 @@ class Failed(Exception):
         self.status = status
 
 
-def start(main, text):
+def start(main, text, name=NAME):
     """Runs a tool with this text about it. `main` gets the options, and returns whether all is
-    well."""
+    well. An error begins with the name."""
     status = 1
     try:
         for number in SIGNALS:
@@ -47,7 +47,7 @@ def start(main, text):
     except BrokenPipeError:
         os.dup2(os.open(os.devnull, os.O_WRONLY), 1)
     except (AssertionError, Failed, OSError, subprocess.SubprocessError) as error:
-        say(f"{NAME}: {error}")
+        say(f"{name}: {error}")
         status = getattr(error, "status", 2)
     sys.exit(status)
 
