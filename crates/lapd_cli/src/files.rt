@@ -87,6 +87,7 @@ fn read_file<R: Read + Drop>(
         return print_unread(rt, file, reason);
     }
     match kind_of_file(front) {
+        FileKind::Capture if chosen.span.is_some() => print_no_log(rt, file, "a capture"),
         FileKind::Capture => read_capture(
             rt,
             file,
@@ -151,6 +152,9 @@ fn read_text<R: Read + Drop>(
         let _ = eprintln!(rt; "{}: read as a log (--loose)", Escaped(file));
         return run_script(rt, &as_log(rt, chosen, options), Some(file), source, output);
     }
+    if chosen.span.is_some() {
+        return print_no_log(rt, file, "a script");
+    }
     match options.time {
         PrintedTime::Hidden => run_script(rt, chosen, Some(file), source, output),
         _ => {
@@ -161,6 +165,13 @@ fn read_text<R: Read + Drop>(
             ExitCode::from(COMMAND_LINE)
         }
     }
+}
+
+/// Reports that `--span` is present, and that this file is not a log but of this kind.
+pub fn print_no_log(rt: &HostRuntime, file: &str, kind: &str) -> ExitCode {
+    let file = Escaped(file);
+    let _ = eprintln!(rt; "error: --span requires a log, and {file} is {kind}");
+    ExitCode::from(COMMAND_LINE)
 }
 
 // Why the first line of a text was not read.

@@ -3,6 +3,7 @@
 use crate::ending::Stop;
 use crate::job::time_of;
 use crate::local_zone::zone_of;
+use lapd_cli_console::Escaped;
 use lapd_cli_decode::{
     Drawing, FrameStyle, JoinedDumps, Layout, LineForm, LinesStyle, Side, Zone, print_lines,
 };
@@ -174,9 +175,29 @@ fn run_span<L: Read + Drop, W: Write>(
     if log.has_words() {
         let _ = eprintln!(rt; "{WORDS}");
     }
+    note_span(rt, &log, style.log.span);
     note_times(rt, &log, style);
     let rest = log.others();
     (ended, rest)
+}
+
+// Reports that no line names the chosen span.
+fn note_span<L: Read + Drop>(rt: &HostRuntime, log: &LogReader<'_, '_, L>, chosen: Option<&str>) {
+    let Some(span) = chosen else {
+        return;
+    };
+    if log.has_span() {
+        return;
+    }
+    let span = Escaped(span);
+    let Ok(last) = log.last_span() else {
+        return;
+    };
+    let _ = if last.is_empty() {
+        eprintln!(rt; "no line names a span: all lines are read")
+    } else {
+        eprintln!(rt; "no line is of span {span}; the last that names a span is of {last}")
+    };
 }
 
 // Reports that times are missing, go back or have no year, where that matters.

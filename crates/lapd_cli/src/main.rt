@@ -27,8 +27,10 @@ mod output;
 
 use capture::run_capture;
 use conform::run_conform;
-use ending::{Ending, Stop, print_ending, print_memory, print_no_invocation, print_words_fault};
-use files::run_files;
+use ending::{
+    COMMAND_LINE, Ending, Stop, print_ending, print_memory, print_no_invocation, print_words_fault,
+};
+use files::{print_no_log, run_files};
 use greeting::Greeting;
 use job::{run_job, script_of};
 use lapd_cli_console::{FaultReport, PrintedAnswers, RecentLines, Refusals, Session, Watched};
@@ -83,6 +85,11 @@ fn run_decode(
     output: Output<'_>,
 ) -> ExitCode {
     match (chosen.files.as_slice(), chosen.pcap) {
+        ([], Some(file)) if chosen.span.is_some() => print_no_log(rt, file, "a capture"),
+        ([], None) if chosen.span.is_some() && !options.loose => {
+            let _ = eprintln!(rt; "error: --span requires a log: FILE, or --loose");
+            ExitCode::from(COMMAND_LINE)
+        }
         ([], Some(file)) => run_capture(rt, file, options, chosen.strict, output),
         ([], None) => run_lines(rt, chosen, output),
         (files, _) => run_files(rt, chosen, files, options, output),

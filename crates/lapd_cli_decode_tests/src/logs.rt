@@ -174,6 +174,48 @@ fn row_holds(alloc: Global, row: &str) -> bool {
         && is_rewritten(alloc, text, span, wanted, others, 1)
 }
 
+// The lines of a log, a chosen span, whether a line names it, and the last span that a line names.
+const SPANS: &str = "\
+Span: 1 > [ 00 ]~Span: 2 < [ 00 ]~|1|yes|2
+Span: 1 > [ 00 ]~|3|no|1
+[PRI Span: 1 D-Channel: 2] > [ 00 ]~|1|yes|1 D-Channel 2
+> [ 00 ]~|1|no|
+";
+
+#[test]
+fn spans_are_named(rt: HostRuntime) -> Result<(), Fail> {
+    for row in SPANS.lines() {
+        wants(row_names_spans(rt.alloc(), row), row, "its spans")?;
+    }
+    Ok(())
+}
+
+fn row_names_spans(alloc: Global, row: &str) -> bool {
+    let Ok(row) = row.replace(alloc, "~", "\n") else {
+        return false;
+    };
+    let mut fields = row.as_str().split('|');
+    let text = fields.next().unwrap_or("");
+    let style = LogStyle {
+        printer: None,
+        span: fields.next(),
+        times: LogTimes::Hidden,
+    };
+    let is_named = fields.next() == Some("yes");
+    let last = fields.next().unwrap_or("");
+    let Ok(mut reader) = LogReader::new(alloc, text.as_bytes(), style) else {
+        return false;
+    };
+    let mut found = Vec::new(alloc);
+    if reader.read_to_end(&mut found).is_err() || reader.has_span() != is_named {
+        return false;
+    }
+    match reader.last_span() {
+        Ok(name) => name.as_str() == last,
+        Err(_) => false,
+    }
+}
+
 fn is_rewritten(
     alloc: Global,
     text: &str,

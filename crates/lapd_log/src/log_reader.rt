@@ -56,11 +56,11 @@ pub enum LogTimes<'a> {
 
 /// A reader of text that rewrites the lines of another reader's log in the forms that `decode`
 /// reads: lines of Cisco, of Osmocom and of mISDN, trace lines of `lapd`, and octets that are listed
-/// with commas, dashes or escapes. Lists and dumps without offsets that have several lines are joined to one, which follows
-/// empty lines, so that the lines keep their numbers. If times are
+/// with commas, dashes or escapes. Lists and dumps without offsets that have several lines are
+/// joined to one, which follows empty lines, so that the lines keep their numbers. If times are
 /// requested, a line with a time has it in front, as `@` and the microseconds since 1970, and a line
-/// without one has that of the line before; but not a line of a dump with offsets.
-/// Lines of dumps of words of 16 bits are left out. Other lines are unchanged.
+/// without one has that of the line before; but not a line of a dump with offsets. Lines of dumps of
+/// words of 16 bits are left out. Other lines are unchanged.
 ///
 /// Only the lines of one span are passed on, and those of no span. A line that names no span is of
 /// the same one as the line before. The lines of other spans are kept ([`LogReader::others`]),
@@ -81,6 +81,8 @@ pub struct LogReader<'a, 'z, R> {
     span: Vec<u8>,
     /// The span of the last line that named one.
     last_span: Vec<u8>,
+    /// Whether a line named the span whose lines are passed on.
+    has_span: bool,
     /// The lines of other spans.
     others: Vec<u8>,
     /// The times of the lines so far.
@@ -150,6 +152,7 @@ impl<'a, 'z, R: Read + Drop> LogReader<'a, 'z, R> {
             is_long: false,
             span,
             last_span: Vec::new(alloc),
+            has_span: false,
             others: Vec::new(alloc),
             clock: LogClock::NEW,
             is_yearless: false,
@@ -170,6 +173,20 @@ impl<'a, 'z, R: Read + Drop> LogReader<'a, 'z, R> {
     /// The span whose lines were passed on; empty if no line named one.
     pub fn span(&self) -> &[u8] {
         self.span.as_slice()
+    }
+
+    /// Whether a line named the span whose lines are passed on.
+    pub fn has_span(&self) -> bool {
+        self.has_span
+    }
+
+    /// The span of the last line that named one, as [`span_name`] shows it; empty if no line did.
+    ///
+    /// # Errors
+    ///
+    /// `AllocError` if an allocation fails.
+    pub fn last_span(&self) -> Result<String, AllocError> {
+        shown_name(self.alloc, self.last_span.as_slice())
     }
 
     /// Whether a line of a dump of words of 16 bits was left out: its octets may be exchanged.
@@ -279,11 +296,13 @@ impl<'a, 'z, R: Read + Drop> LogReader<'a, 'z, R> {
         if self.span.is_empty() {
             self.span.extend_from_slice(self.last_span.as_slice())?;
         }
-        Ok(is_named(
+        let is_own = is_named(
             self.style.span.is_some(),
             self.span.as_slice(),
             self.last_span.as_slice(),
-        ))
+        );
+        self.has_span |= is_own;
+        Ok(is_own)
     }
 
     // ---- The lines of the span.
@@ -538,8 +557,13 @@ pub fn span_name(alloc: Global, text: &[u8]) -> Result<String, AllocError> {
     };
     let mut name = Vec::new(alloc);
     push_name(alloc, &mut name, line)?;
+    shown_name(alloc, name.as_slice())
+}
+
+// The name of a span as a heading shows it.
+fn shown_name(alloc: Global, name: &[u8]) -> Result<String, AllocError> {
     let mut shown = String::new(alloc);
-    for octet in name.as_slice() {
+    for octet in name {
         let character = match octet {
             b'"' | b'\\' => '?',
             b' '..=b'~' => char::from(*octet),
