@@ -77,9 +77,8 @@ high one first. A fault of the connection ends the script: `port` and the fault
 are printed on standard error, and the exit status is 3. The faults are S2
 BadLength (a length that is not from 3 to 264), S3 Cut (the end inside a frame),
 S4 Device, S5 TooManyTurns and S6 Failed. With the real clock S2 is a length of
-0:
-a frame of 1 or 2 octets is discarded, and of more than 264 octets the first 265
-are processed, printed and recorded.
+0: a frame of 1 or 2 octets is discarded, and of more than 264 octets the first
+265 are processed, printed and recorded.
 
 Example, with `lapd user --connect 127.0.0.1:4000` on the other side, whose
 lines `lapd user --help` has. A line after < is a line of the script, and a line
@@ -277,9 +276,8 @@ high one first. A fault of the connection ends the script: `port` and the fault
 are printed on standard error, and the exit status is 3. The faults are S2
 BadLength (a length that is not from 3 to 264), S3 Cut (the end inside a frame),
 S4 Device, S5 TooManyTurns and S6 Failed. With the real clock S2 is a length of
-0:
-a frame of 1 or 2 octets is discarded, and of more than 264 octets the first 265
-are processed, printed and recorded.
+0: a frame of 1 or 2 octets is discarded, and of more than 264 octets the first
+265 are processed, printed and recorded.
 
 Example, with `lapd net --listen 127.0.0.1:4000` on the other side, whose lines
 `lapd net --help` has. A line after < is a line of the script, and a line after
