@@ -81,15 +81,6 @@ packet_begun header captured number r is fits enough =
     rw (small, all) refl in
     ap (λ n. record_packet header n r) (sym is) ∙ packet
 
-pub packet_cut : (header : List ℕ) (captured : ℕ) (r : Reading)
-    → captured ≡ number_at r.order 4 8 header → captured ≤ 262144 → length r.left < captured
-    → record_after header r ≡ Err Cut
-packet_cut header captured r is fits few =
-    let small : nat_lt most_packet captured ≡ false = grind (arith, nat_tests) in
-    let cut : nat_lt (length r.left) captured ≡ true = grind (arith, nat_tests) in
-    let packet : record_packet header captured r ≡ Err Cut = rw (small, cut) refl in
-    ap (λ n. record_packet header n r) (sym is) ∙ packet
-
 pub record_is_found : {R : Type 0} (remaining : R → Option (List ℕ)) (old new : CaptureReader R)
     (header : List ℕ) (captured original : ℕ) (item : CaptureItem) (moment : Option ℕ)
     → original ≡ number_at old.order 4 12 header

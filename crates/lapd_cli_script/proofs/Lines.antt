@@ -124,14 +124,6 @@ pub HasNoFeed-append : (a b : List ℕ) → HasNoFeed a → HasNoFeed b → HasN
 HasNoFeed-append [] b h k = k
 HasNoFeed-append (o ∷ a) b h k = (h.0, HasNoFeed-append a b h.1 k)
 
-pub HasNoFeed-without_comment : (line : List ℕ) → HasNoFeed line → HasNoFeed (without_comment line)
-HasNoFeed-without_comment [] h = h
-HasNoFeed-without_comment (octet ∷ octets) h = by_test (octet == 35)
-  where
-    by_test : (b : Bool) → HasNoFeed (cond b (octet ∷ []) (octet ∷ octets))
-    by_test true = (h.0, tt)
-    by_test false = h
-
 -- an octet other than a line feed becomes the first octet of the first line
 lines_of-other : (o : ℕ) (octets : List ℕ) → o ≢ 10
     → lines_of (o ∷ octets) ≡ with_first o (lines_of octets)

@@ -7,13 +7,6 @@ use Rattle.lapd_link_definition.specs.declared.out.Out.{Out}
 use Rattle.lapd_link_definition.specs.Input.{Input, Heard, Faulty, Expiry, Establish, Release, BusyOn, BusyOff, UnitData, Give}
 use Rattle.lapd_link_machine.specs.Bounds.{is_primitive, primitive_count, most_outputs, IsBounded}
 
-pub primitives_behind : (outs : List Out) (out : Out) → is_primitive out ≡ false
-    → primitive_count (outs ++ out ∷ []) ≡ primitive_count outs
-primitives_behind outs out h =
-    let none : filter is_primitive (out ∷ []) ≡ [] = rw h refl in
-    ap length (filter-append is_primitive outs (out ∷ [])
-    ∙ rw none (append-nil (filter is_primitive outs)))
-
 pub primitives_among : (outs : List Out) → primitive_count outs ≤ length outs
 primitives_among outs = rw (length-filter is_primitive outs) (count_by-le-length is_primitive outs)
 

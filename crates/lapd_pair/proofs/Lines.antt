@@ -105,16 +105,6 @@ place_behind test (suc count) (x ∷ xs) h =
     adds (not (test x)) (position_or_len test xs) (position_or_len test (drop count xs)) count h
     (place_behind test count xs)
 
--- if one of n frames is lost, fewer than n of the first `count` are left
-fewer_where : (less : Bool) (place count n : ℕ) → nat_lt place count ≡ less → count ≤ n → place < n
-    → (if less then count - 1 else count) < n
-fewer_where true place count n is few within = omega (arith, few, within)
-fewer_where false place count n is few within =
-    let before : count ≤ place = grind (arith, nat_tests) in omega (arith, before, within)
-
-pub fewer_left : (place count n : ℕ) → count ≤ n → place < n → left_of place count < n
-fewer_left place count n few within = fewer_where (nat_lt place count) place count n refl few within
-
 -- ---- One more frame.
 
 frames_more : (frames : List Flight) (sent : Flight) → AreFrames frames → IsFrame (fields_of sent)

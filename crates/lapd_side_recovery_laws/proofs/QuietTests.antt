@@ -57,9 +57,6 @@ is_punctual late now (Some l) = is_by late now l.timers.t200
     && (is_by late now l.timers.t201 && (is_by late now l.timers.t202
     && is_by late now l.timers.t203))
 
-some_linked : (a b : Linked) → Some a ≡ Some b → a ≡ b
-some_linked a b h = cc
-
 by_so : (late now : ℕ) (o : Option ℕ) (deadline : ℕ) → is_by late now o ≡ true
     → o ≡ Some deadline → now ≤ deadline + late
 by_so late now None deadline h is = cc

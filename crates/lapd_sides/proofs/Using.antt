@@ -38,13 +38,6 @@ use Rattle.lapd_sides.proofs.Calling.{granted_as}
 use Rattle.lapd_sides.specs.Calls.{Answers, HasDone, HasFollowed, HasGranted}
 use Rattle.lapd_sides.specs.ShowsUser.{UserSide, ShowUser, ShowReferences, admitted}
 
--- appended to no effects
-pub done_first : (code : UserSide) (config : Config) (before acts : Effects) (a : Reaction User)
-    → before ≡ no_effects → HasFollowed ShowUser code config before acts a
-    → HasDone ShowUser code config acts a
-done_first code config before acts a empty h =
-    record { shown = h.shown; given = h.given ∙ ap (λ (e : Effects). and_then e a.effects) empty }
-
 -- ---- The terminal's own TEI.
 
 -- the link of the terminal's own TEI was looked up, and exists

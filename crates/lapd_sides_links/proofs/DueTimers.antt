@@ -89,17 +89,6 @@ first_of_both id timers a b first one other is =
 
 -- ---- Timers at rest.
 
-pub all_are_stopped : (durations : Lengths) → AreStopped (all_stopped durations)
-all_are_stopped durations T200 = refl
-all_are_stopped durations T201 = refl
-all_are_stopped durations T202 = refl
-all_are_stopped durations T203 = refl
-
-pub halted : (timers : Option Timers)
-    → IfSome (option_map (λ (t : Timers). all_stopped t.durations) timers) AreStopped
-halted None = tt
-halted (Some timers) = all_are_stopped timers.durations
-
 -- ---- In each slot of the tournament.
 
 abbrev entry_place_of : LinkId → Option ℕ

@@ -161,16 +161,6 @@ pub read_entry : (nodes : List (Option RunningTimer)) (n : ℕ) (found : Option 
     → n < length nodes → found ≡ get_or nodes n found → entry nodes n ≡ found
 read_entry nodes n found within is = sym (get_or_read nodes n found within is None)
 
-pub sooner_of_two : (nodes : List (Option RunningTimer)) (at : ℕ)
-    (left right first : Option RunningTimer) → length nodes ≡ 512 → at < 256
-    → left ≡ get_or nodes (2 * at) left → right ≡ get_or nodes (2 * at + 1) right
-    → IsSooner left right first
-    → IsSooner (entry nodes (2 * at)) (entry nodes (2 * at + 1)) first
-sooner_of_two nodes at left right first size high one other is =
-    same_sooner left right first _ _ first
-    (read_entry nodes (2 * at) left (omega (arith, size, high)) one)
-    (read_entry nodes (2 * at + 1) right (omega (arith, size, high)) other) refl is
-
 either_way : (a b c : Option RunningTimer) → IsSooner a b c → IsSooner b a c
 either_way None None c is = is
 either_way None (Some b) c is = is
@@ -229,10 +219,6 @@ won_but nodes open_node h = record {
   size = h.size;
   won = λ n other least most. h.won n (λ q. omega (arith, q, least)) least most;
 }
-
-pub place_entered : (nodes : List (Option RunningTimer)) (at : ℕ) (expiry : Option RunningTimer)
-    → IsWonBut 0 nodes → 256 ≤ at → IsWonBut (at / 2) (set nodes at expiry)
-place_entered nodes at expiry h low = place_written nodes at expiry (won_but nodes (at / 2) h) low
 
 -- ---- A single occupied slot.
 

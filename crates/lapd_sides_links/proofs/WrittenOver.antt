@@ -172,21 +172,6 @@ least_left frames first end left stop within removed all =
 
 -- ---- More places.
 
--- a place behind the items
-pub place_behind : {X : Type 0} (items : List X) (first end : ℕ) (blank : X) → end ≡ length items
-    → in_use first end (items ++ blank ∷ []) ≡ in_use first end items
-place_behind items first end blank whole =
-    ap (drop first) (take-append-le end items (blank ∷ []) (omega arith))
-
--- the items are moved to the front
-pub in_front : {X : Type 0} (items : List X) (first end : ℕ) → first ≤ end → end ≡ length items
-    → in_use 0 (end - first) (drop first items ++ take first items) ≡ in_use first end items
-in_front items first end h whole =
-    let size : length (drop first items) ≡ end - first =
-    length-drop first items ∙ ap (λ (n : ℕ). n - first) (sym whole) in
-    take_at (drop first items) (take first items) (end - first) size
-    ∙ ap (drop first) (sym (take_all end items (omega arith)))
-
 -- ---- An item that is written at the end of a list.
 
 pub frame_pushed : (frames pushed : List (ArrayVec ℕ)) (place : ℕ) (made written frame : ArrayVec ℕ)

@@ -35,12 +35,7 @@ impl Machine {
     {
         match control {
             Control::I { ns, nr, p } => self.timer_recovery_i_frame(ns, nr, p, role, outs),
-            Control::Rr { nr, pf } => {
-                self.set_peer_busy(false);
-                self.poll(role, pf, outs);
-                self.rr_nr_in_recovery(is_final(role, pf), nr, outs);
-            }
-            Control::Rej { nr, pf } => {
+            Control::Rr { nr, pf } | Control::Rej { nr, pf } => {
                 self.set_peer_busy(false);
                 self.poll(role, pf, outs);
                 self.rr_nr_in_recovery(is_final(role, pf), nr, outs);
