@@ -1,8 +1,8 @@
 -- The result of a case, and what it rests on.
 use Rattle.std.specs.Prelude.{◌≡◌, ⊤, true, ℕ, Option, Some, None, is_some}
-use Rattle.lapd_conform_judge.specs.declared.judgement.Judgement.{Judgement}
-use Rattle.lapd_conform_judge.specs.declared.judgement.Judgement.TheVariants.{Refused}
-use Rattle.lapd_conform_judge.specs.declared.judgement.Verdict.TheVariants.{Pass, Fail}
+use Rattle.lapd_conform.specs.declared.judgement.Judgement.{Judgement}
+use Rattle.lapd_conform.specs.declared.judgement.Judgement.TheVariants.{Refused}
+use Rattle.lapd_conform.specs.declared.judgement.Verdict.TheVariants.{Pass, Fail}
 use Rattle.lapd_conform.specs.declared.outcome.Outcome.{Outcome}
 use Rattle.lapd_conform.specs.declared.outcome.Outcome.TheVariants.{NotApplicable, Played as WasPlayed}
 use Rattle.lapd_conform.specs.declared.outcome.Played.{Played}

@@ -1,6 +1,6 @@
 //! The result of a case.
 
-use lapd_conform_judge::Verdict;
+use crate::judgement::Verdict;
 use lapd_conform_player::{Happening, Lacks, Reason};
 
 /// Why the table decides nothing about a case that was played.

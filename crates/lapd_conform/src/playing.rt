@@ -3,11 +3,14 @@
 ghost use Rattle.std.specs.Prelude.{◌≡◌, IfOk};
 ghost use Rattle.lapd_conform.specs.Outcomes.{HasReasons, IsReasoned, place_refused};
 
+use crate::candidates::judge;
+use crate::judgement::{Judgement, Verdict, verdict_on};
 use crate::outcome::{Doubt, Outcome, Played};
-use lapd_conform_judge::{Judgement, Params, Sapi, Setup, Tei, Verdict, judge, verdict_on};
+use crate::setup::Setup;
 use lapd_conform_player::{
     Case, Group, Lost, Performance, Preamble, Reason, Stack, Station, lack, perform,
 };
+use lapd_link::{Params, Sapi, Side, Tei};
 use std::alloc::Global;
 
 /// How late frames may be, in milliseconds, if TEI management is judged: no timer must expire
@@ -104,7 +107,7 @@ fn kept_tei(
     case: &Case<'_>,
     performance: &Performance,
 ) -> Option<u8> {
-    let is_network = matches!(stack.side, lapd_conform_judge::Side::Network);
+    let is_network = matches!(stack.side, Side::Network);
     match performance.reason {
         Some(Reason::NotReached(Preamble::TeiAssigned)) => None,
         _ if case.tests_link() => performance.tei,

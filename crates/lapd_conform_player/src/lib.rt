@@ -3,11 +3,12 @@
 //! A [`Station`] is the stack under test as the player reaches it: a line, an upper tester and a
 //! clock. [`Stack`] says what is known of the stack. [`perform`] plays the lines of a [`Case`], and
 //! returns what happened and whether the purpose of the case was reached ([`Performance`]). The
-//! rule for the verdict on it is in `lapd_conform_judge`.
+//! rule for the verdict on it is in `lapd_conform`.
 #![tactic(auto)]
 
 mod case;
 mod compared;
+mod happening;
 mod performance;
 mod player;
 mod preamble;
@@ -18,7 +19,7 @@ mod station;
 mod values;
 
 pub use case::{Case, first_case};
-pub use lapd_conform_dialogue::{Ask, Happening, What};
+pub use happening::{Ask, Happening, What};
 pub use lapd_conform_suite::{Group, Need, NumberedLine, Preamble, Request};
 pub use performance::{Performance, lack, perform};
 pub use reason::{Lacks, Reason};

@@ -1,13 +1,13 @@
 //! Playing the lines of a case.
 
 use crate::case::Case;
+use crate::happening::Happening;
 use crate::player::Player;
 use crate::reason::{Lacks, Reason, Stop};
 use crate::spelled::GROUP;
 use crate::stack::Stack;
 use crate::station::{Lost, Station};
 use crate::values::Values;
-use lapd_conform_dialogue::Happening;
 use lapd_conform_suite::{Preamble, Step};
 use std::alloc::Global;
 

@@ -1,11 +1,11 @@
 //! Executing the lines of a case.
 
 use crate::compared::{Received, is_expected};
+use crate::happening::{Ask, Happening, What};
 use crate::reason::{Reason, Stop};
 use crate::spelled::{GROUP, MANAGEMENT, put_address, spelled};
 use crate::station::Station;
 use crate::values::Values;
-use lapd_conform_dialogue::{Ask, Happening, What};
 use lapd_conform_suite::{Line, Number, NumberedLine, Pattern, Request, Span, Step};
 use lapd_frame::Role;
 use lapd_timers::Timer;

@@ -1,6 +1,6 @@
 //! Tests of the judge: dialogues, and the judgement on each.
 
-use lapd_conform_judge::{Ask, Happening, Params, Sapi, Setup, Side, Tei, What, judge};
+use lapd_conform::{Ask, Happening, Params, Sapi, Setup, Side, Tei, What, judge};
 use lapd_test_text::{Subject, Text, split, wrong_row};
 use std::alloc::{AllocError, Global};
 use std::test::Fail;

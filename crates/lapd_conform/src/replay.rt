@@ -3,7 +3,7 @@
 ghost use Rattle.std.specs.Prelude.{◌≡◌};
 
 use crate::setup::Setup;
-use lapd_conform_dialogue::{Ask, Happening, What};
+use lapd_conform_player::{Ask, Happening, What};
 use lapd_link::{
     Control, Event, Frame, FrameFault, Link, Outs, Params, Recovery, Sapi, Seq, State, Window,
 };

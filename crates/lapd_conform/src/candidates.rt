@@ -6,7 +6,7 @@ use crate::judgement::Judgement;
 use crate::owed::{Owed, Seen, frame_seen};
 use crate::replay::{Dialogue, Move};
 use crate::setup::Setup;
-use lapd_conform_dialogue::{Happening, What};
+use lapd_conform_player::{Happening, What};
 use lapd_link::{Control, Role};
 use std::alloc::{AllocError, Global};
 use std::mem;

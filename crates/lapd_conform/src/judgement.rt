@@ -1,7 +1,7 @@
 //! The judgement on a dialogue, and the verdict on a case.
 
 ghost use Rattle.std.specs.Prelude.{◌≡◌};
-ghost use Rattle.lapd_conform_judge.specs.Verdict.{verdict_of};
+ghost use Rattle.lapd_conform.specs.Verdict.{verdict_of};
 
 /// The judgement on a dialogue.
 #[derive(Clone, Copy, Debug, PartialEq, Eq)]

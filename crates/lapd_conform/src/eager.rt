@@ -4,7 +4,7 @@
 use crate::candidate::Candidate;
 use crate::owed::{Owed, Seen, frame_seen};
 use crate::replay::{Dialogue, Move};
-use lapd_conform_dialogue::{Happening, What};
+use lapd_conform_player::{Happening, What};
 use std::alloc::AllocError;
 
 /// The greatest number of moves for one happening.

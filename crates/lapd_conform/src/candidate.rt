@@ -2,7 +2,7 @@
 
 use crate::owed::Owed;
 use crate::replay::{Dialogue, Facts, Move, Replay, is_request_to_establish, replayed};
-use lapd_conform_dialogue::{Ask, What};
+use lapd_conform_player::{Ask, What};
 use lapd_link::{Control, Out, Recovery, Role, State, Timer};
 use std::alloc::AllocError;
 
