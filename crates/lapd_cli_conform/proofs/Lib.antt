@@ -1,5 +1,1 @@
 mod Appended
-mod Joined
-mod Rows
-mod StackLines
-mod TextLines

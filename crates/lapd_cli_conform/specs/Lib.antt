@@ -1,6 +1,6 @@
+pub mod Escaped
 pub mod Found
 pub mod Json
-pub mod Junit
 pub mod Patterns
 pub mod Plans
 pub mod Reading

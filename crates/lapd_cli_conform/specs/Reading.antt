@@ -1,60 +1,38 @@
--- How words are read: the value, or the wrong word and what is wanted in its place.
-use Rattle.std.specs.Prelude.{◌≡◌, ℕ, ◌&&◌, nat_le, List, [], ◌∷◌, if◌then◌else◌, Option, Some, None, option_map, find, Result, Ok, Err, ⊤}
-use Rattle.std.specs.Str.{bytes_eq}
+-- How words are read: the value, or the wrong word and what is expected in its place.
+use Rattle.std.specs.Prelude.{◌≡◌, ℕ, ◌&&◌, nat_le, List, [], ◌∷◌, if◌then◌else◌, Option, Some, None, Result, Ok, Err, ⊤}
 use Rattle.lapd_cli_script.specs.Line.{parsed_number}
-use Rattle.lapd_cli_conform.specs.declared.fault.Fault.{Fault}
-use Rattle.lapd_cli_conform.specs.declared.fault.Wanted.{Wanted}
-use Rattle.lapd_cli_conform.specs.declared.fault.Wanted.TheVariants.{EndOfLine}
-use Rattle.lapd_cli_conform.specs.declared.named.Named.{Named}
+use Rattle.lapd_conform_suite.specs.Reading.{value_named}
+use Rattle.lapd_cli_conform.specs.declared.fault.SettingFault.{SettingFault}
+use Rattle.lapd_cli_conform.specs.declared.fault.Needed.{Needed}
+use Rattle.lapd_cli_conform.specs.declared.fault.Needed.TheVariants.{EndOfLine}
 
--- the wrong word, and what is wanted
+-- the wrong word, and what is expected
 abbrev pub Wrong : Type 0
-Wrong = List ℕ × Wanted
+Wrong = List ℕ × Needed
 
 -- the code's result is the defined one, seen by `view`
-abbrev pub ReadsAs : {X Y : Type 0} → (X → Y) → Result X Fault → Result Y Wrong → Type 0
+abbrev pub ReadsAs : {X Y : Type 0} → (X → Y) → Result X SettingFault → Result Y Wrong → Type 0
 ReadsAs view (Ok x) read = read ≡ Ok (view x)
 ReadsAs view (Err fault) read = read ≡ Err (fault.found.now, fault.wanted)
 
--- reads on if nothing was wrong
-abbrev pub read_on : {A B E : Type 0} → Result A E → (A → Result B E) → Result B E
-read_on (Ok a) next = next a
-read_on (Err wrong) next = Err wrong
-
-abbrev pub or_wrong : {A : Type 0} → List ℕ → Wanted → Option A → Result A Wrong
+abbrev pub or_wrong : {A : Type 0} → List ℕ → Needed → Option A → Result A Wrong
 or_wrong word wanted (Some a) = Ok a
 or_wrong word wanted None = Err (word, wanted)
-
--- the first word, which is empty at the end of the line, and the words after it
-abbrev pub first_of : List (List ℕ) → List ℕ
-first_of [] = []
-first_of (word ∷ words) = word
-
-abbrev pub rest_of : List (List ℕ) → List (List ℕ)
-rest_of [] = []
-rest_of (word ∷ words) = words
 
 -- no word is left
 abbrev pub ended : List (List ℕ) → Result ⊤ Wrong
 ended [] = Ok tt
 ended (word ∷ words) = Err (word, EndOfLine)
 
--- a word and its meaning
-abbrev pub row_of : {A : Type 0} → Named A → List ℕ × A
-row_of named = (named.word.now, named.value)
-
 -- the meaning of a word in a table
-abbrev pub value_named : {A : Type 0} → List (List ℕ × A) → List ℕ → Option A
-value_named rows word = option_map (λ row. row.1) (find (λ row. bytes_eq word row.0) rows)
-
-abbrev pub value_at : {A : Type 0} → List (List ℕ × A) → Wanted → List ℕ → Result A Wrong
+abbrev pub value_at : {A : Type 0} → List (List ℕ × A) → Needed → List ℕ → Result A Wrong
 value_at rows wanted word = or_wrong word wanted (value_named rows word)
 
 -- a number from `least` to `most`, in decimal digits
-abbrev pub number_by : ℕ → ℕ → Wanted → List ℕ → Option ℕ → Result ℕ Wrong
+abbrev pub number_by : ℕ → ℕ → Needed → List ℕ → Option ℕ → Result ℕ Wrong
 number_by least most wanted word None = Err (word, wanted)
 number_by least most wanted word (Some n) =
     if nat_le least n && nat_le n most then Ok n else Err (word, wanted)
 
-abbrev pub number_in : ℕ → ℕ → Wanted → List ℕ → Result ℕ Wrong
+abbrev pub number_in : ℕ → ℕ → Needed → List ℕ → Result ℕ Wrong
 number_in least most wanted word = number_by least most wanted word (parsed_number word)

@@ -16,7 +16,7 @@ abbrev pub known_grade : Grade → Bool → Grade
 known_grade Fail true = Known
 known_grade grade known = grade
 
--- a part behind the title; an empty one is left out
+-- a part after the title; an empty one is left out
 abbrev pub part_text : List ℕ → List ℕ → List ℕ
 part_text name [] = []
 part_text name (octet ∷ value) = codes "; " ++ name ++ octet ∷ value

@@ -6,12 +6,13 @@ use Rattle.lapd_conform_suite.specs.declared.words.Request.{Request}
 use Rattle.lapd_conform_suite.specs.declared.words.Request.TheVariants as request
 use Rattle.lapd_conform_player.specs.declared.stack.Requests.{Requests}
 use Rattle.lapd_conform_player.specs.declared.stack.Stack.{Stack}
-use Rattle.lapd_cli_conform.specs.declared.fault.Wanted.TheVariants as wanted
+use Rattle.lapd_cli_conform.specs.declared.fault.Needed.TheVariants as wanted
 use Rattle.lapd_cli_conform.specs.declared.setting.Setting.{Setting}
 use Rattle.lapd_cli_conform.specs.declared.setting.Setting.TheVariants as setting
 use Rattle.lapd_cli_conform.specs.declared.setting.SettingName.{SettingName}
 use Rattle.lapd_cli_conform.specs.declared.setting.SettingName.TheVariants as name
-use Rattle.lapd_cli_conform.specs.Reading.{Wrong, ended, first_of, number_in, read_on, rest_of, value_at}
+use Rattle.lapd_conform_suite.specs.Reading.{first_of, read_on, rest_of}
+use Rattle.lapd_cli_conform.specs.Reading.{Wrong, ended, number_in, value_at}
 
 -- ---- The words.
 
@@ -95,7 +96,7 @@ with_request r request.Ask = record r { ask = true }
 with_request r request.Check = record r { check = true }
 with_request r request.Remove = record r { remove = true }
 
--- the requests that the words name, besides these
+-- these requests, and those that the words name
 abbrev pub requests_from : Requests → List (List ℕ) → Result Setting Wrong
 requests_from r [] = Ok (setting.Upper r)
 requests_from r (word ∷ words) = read_on (value_at requests wanted.Request word) (λ q.

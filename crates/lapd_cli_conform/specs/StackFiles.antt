@@ -6,7 +6,8 @@ use Rattle.lapd_frame.specs.declared.Side.TheVariants.{Network, User}
 use Rattle.lapd_conform_player.specs.declared.stack.Requests.{Requests}
 use Rattle.lapd_conform_player.specs.declared.stack.Stack.{Stack}
 use Rattle.lapd_cli_conform.specs.declared.fault.StackFault.{StackFault}
-use Rattle.lapd_cli_conform.specs.Reading.{Wrong, read_on}
+use Rattle.lapd_conform_suite.specs.Reading.{read_on}
+use Rattle.lapd_cli_conform.specs.Reading.{Wrong}
 use Rattle.lapd_cli_conform.specs.Settings.{no_requests, setting_in, with_setting}
 
 -- a network side checks and removes TEIs, and a user side requests one
@@ -79,8 +80,8 @@ abbrev pub ReadsAt : {X Y : Type 0} → (X → Y) → Result X StackFault → Re
 ReadsAt view (Ok x) read = read ≡ Ok (view x)
 ReadsAt view (Err wrong) read = read ≡ Err (wrong.line, (wrong.fault.found.now, wrong.fault.wanted))
 
--- the stack `all` is what `behind` says of the stack after a line, or the line is wrong
+-- the stack `all` is what `read` says of the stack after a line, or the line is wrong
 abbrev pub GoesOn : (Stack → Result Stack WrongLine) → Result Stack StackFault
     → Result Stack WrongLine → Type 0
-GoesOn behind (Ok after) all = all ≡ behind after
-GoesOn behind (Err wrong) all = all ≡ Err (wrong.line, (wrong.fault.found.now, wrong.fault.wanted))
+GoesOn read (Ok after) all = all ≡ read after
+GoesOn read (Err wrong) all = all ≡ Err (wrong.line, (wrong.fault.found.now, wrong.fault.wanted))

@@ -1,6 +1,6 @@
 //! A script of `lapd answer` for a dialogue: what our link does in the place of the stack.
 
-use lapd_conform::{Ask, Happening, Request, Stack, What};
+use lapd_conform::{Happening, Request, Stack, What, request_word};
 use lapd_conform_draw::{Expected, Timer};
 use lapd_frame::Side;
 use lapd_trace::line;
@@ -109,8 +109,8 @@ fn push_happening(
             let shown = line(alloc, side, octets)?;
             format!(in alloc; "# {moment} ms: the stack sent {shown}\n")?
         }
-        What::Asked(ask) => {
-            let word = request_line(ask);
+        What::Requested(request) => {
+            let word = request_line(request);
             format!(in alloc; "# {moment} ms\n{word}\n")?
         }
     };
@@ -131,34 +131,22 @@ fn push_digits(alloc: Global, text: &mut Vec<u8>, octets: &[u8]) -> Result<(), A
 }
 
 /// The line of a request, with the octets of the upper tester.
-fn request_line(ask: Ask) -> &'static str {
-    match ask {
-        Ask::Establish => "establish",
-        Ask::Release => "release",
-        Ask::Give => "give 0102",
-        Ask::Unit => "unit 0801",
-        Ask::Busy(true) => "busy on",
-        Ask::Busy(false) => "busy off",
+fn request_line(request: Request) -> &'static str {
+    match request {
+        Request::Give => "give 0102",
+        Request::Unit => "unit 0801",
+        Request::Busy => "busy on",
+        Request::Ready => "busy off",
+        _ => request_word(request),
     }
 }
 
 /// Passes a frame or a request of the tester to our link.
 fn take(end: &mut Expected, happening: &Happening) -> Result<(), AllocError> {
     match happening.what {
-        What::Sent => end.hear(happening.octets.as_slice()),
+        What::Sent => end.receive(happening.octets.as_slice()),
         What::Received => {}
-        What::Asked(ask) => end.ask(request_of(ask))?,
+        What::Requested(request) => end.request(request)?,
     }
     Ok(())
-}
-
-fn request_of(ask: Ask) -> Request {
-    match ask {
-        Ask::Establish => Request::Establish,
-        Ask::Release => Request::Release,
-        Ask::Give => Request::Give,
-        Ask::Unit => Request::Unit,
-        Ask::Busy(true) => Request::Busy,
-        Ask::Busy(false) => Request::Ready,
-    }
 }

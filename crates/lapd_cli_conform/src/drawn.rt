@@ -15,7 +15,7 @@ use std::fmt;
 /// How many stimuli a round has. The last round may have fewer.
 const ROUND: u64 = 30;
 
-/// What is drawn: so many stimuli, of this seed.
+/// The number of stimuli that are drawn, and their seed.
 #[derive(Clone, Copy)]
 pub struct DrawPlan {
     /// The number of stimuli.

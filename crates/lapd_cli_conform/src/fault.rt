@@ -2,9 +2,9 @@
 
 use std::fmt;
 
-/// What a line should have in place of a wrong word.
+/// The word or text that a line should have in place of a wrong word.
 #[derive(Clone, Copy)]
-pub enum Wanted {
+pub enum Needed {
     /// The name of a setting.
     Name,
     /// The value of `tei`.
@@ -31,34 +31,34 @@ pub enum Wanted {
     EndOfLine,
 }
 
-impl Wanted {
+impl Needed {
     /// In words, as the object of "expected".
     pub fn words(self) -> &'static str {
         match self {
-            Wanted::Name =>
+            Needed::Name =>
                 "tei, k, n200, n202, t200, t201, t202, t203, sapis, layer3, upper, confirms or delay",
-            Wanted::Tei => "a TEI from 0 to 126, or automatic",
-            Wanted::Window => "a window k from 1 to 127",
-            Wanted::Times => "a number from 1 to 100",
-            Wanted::Duration => "milliseconds from 1 to 3600000",
-            Wanted::IdleDuration => "milliseconds from 1 to 3600000, or none",
-            Wanted::Sapis => "some or all",
-            Wanted::LayerThree => "active or passive",
-            Wanted::Request => "establish, release, give, unit, busy, ask, check or remove",
-            Wanted::Confirms => "yes or no",
-            Wanted::Delay => "milliseconds from 0 to 10000",
-            Wanted::EndOfLine => "the end of the line",
+            Needed::Tei => "a TEI from 0 to 126, or automatic",
+            Needed::Window => "a window k from 1 to 127",
+            Needed::Times => "a number from 1 to 100",
+            Needed::Duration => "milliseconds from 1 to 3600000",
+            Needed::IdleDuration => "milliseconds from 1 to 3600000, or none",
+            Needed::Sapis => "some or all",
+            Needed::LayerThree => "active or passive",
+            Needed::Request => "establish, release, give, unit, busy, ask, check or remove",
+            Needed::Confirms => "yes or no",
+            Needed::Delay => "milliseconds from 0 to 10000",
+            Needed::EndOfLine => "the end of the line",
         }
     }
 }
 
 /// Why a line cannot be read.
 #[derive(Clone, Copy)]
-pub struct Fault<'s> {
+pub struct SettingFault<'s> {
     /// The wrong word. Empty if it is missing.
     pub found: &'s [u8],
-    /// What is wanted there.
-    pub wanted: Wanted,
+    /// The word or text that is expected there.
+    pub wanted: Needed,
 }
 
 /// The first line of a stack file that cannot be read.
@@ -66,11 +66,11 @@ pub struct Fault<'s> {
 pub struct StackFault<'s> {
     /// The number of the line, from 1.
     pub line: u64,
-    /// What is wrong with it.
-    pub fault: Fault<'s>,
+    /// The fault.
+    pub fault: SettingFault<'s>,
 }
 
-impl fmt::Display for Fault<'_> {
+impl fmt::Display for SettingFault<'_> {
     fn fmt<W: fmt::Write>(&self, f: &mut fmt::Formatter<W>) -> fmt::Result {
         f.write_str("expected ")?;
         f.write_str(self.wanted.words())?;

@@ -6,7 +6,7 @@ ghost use Rattle.lapd_cli_conform.specs.Found.{found_text};
 use crate::results::{CaseReport, push_line};
 use std::alloc::AllocError;
 
-/// What may be done with the text.
+/// The use of the text.
 const HINT: &[u8] =
     b"# The least case that fails. --suite FILE plays it again, if FILE has these lines.\n";
 

@@ -1,8 +1,9 @@
 //! Results as JSON objects.
 
-ghost use Rattle.std.specs.Prelude.{◌≡◌, ◌<◌, ◌++◌, OnOk};
-ghost use Rattle.lapd_cli_conform.specs.Json.{escaped, hex_digit as digit_of, member_text, object_line, octet_text, quoted};
+ghost use Rattle.std.specs.Prelude.{◌≡◌, ◌++◌, OnOk};
+ghost use Rattle.lapd_cli_conform.specs.Json.{member_text, object_line, quoted};
 
+use crate::escaped::{Format, push_escaped};
 use crate::results::CaseReport;
 use std::alloc::AllocError;
 
@@ -33,7 +34,7 @@ pub fn push_object(text: &mut Vec<u8>, report: &CaseReport<'_>) -> Result<(), Al
     Ok(())
 }
 
-/// Appends a member behind another one, unless its value is empty.
+/// Appends a member after another one, unless its value is empty.
 fn push_member(text: &mut Vec<u8>, name: &[u8], value: &[u8]) -> Result<(), AllocError>
     ensures { OnOk result (text.new.items ≡ text.old.items ++ member_text name.now value.now) }
 {
@@ -51,46 +52,7 @@ fn push_quoted(text: &mut Vec<u8>, value: &[u8]) -> Result<(), AllocError>
     ensures { OnOk result (text.new.items ≡ text.old.items ++ quoted value.now) }
 {
     text.push(b'"')?;
-    push_escaped(text, value)?;
+    push_escaped(text, Format::Json, value)?;
     text.push(b'"')?;
     Ok(())
-}
-
-fn push_escaped(text: &mut Vec<u8>, value: &[u8]) -> Result<(), AllocError>
-    ensures { OnOk result (text.new.items ≡ text.old.items ++ escaped value.now) }
-{
-    let mut rest = value;
-    while let [octet, behind @ ..] = rest {
-        push_octet(text, *octet)?;
-        rest = behind;
-    }
-    Ok(())
-}
-
-fn push_octet(text: &mut Vec<u8>, octet: u8) -> Result<(), AllocError>
-    ensures { OnOk result (text.new.items ≡ text.old.items ++ octet_text octet) }
-{
-    if octet < 32 {
-        text.extend_from_slice(b"\\u00")?;
-        text.push(hex_digit(octet / 16))?;
-        text.push(hex_digit(octet % 16))?;
-        return Ok(());
-    }
-    if octet == b'"' || octet == b'\\' {
-        text.push(b'\\')?;
-    }
-    text.push(octet)?;
-    Ok(())
-}
-
-/// The digit of a number up to 15.
-fn hex_digit(number: u8) -> u8
-    requires { number < 16 }
-    ensures { result ≡ digit_of number }
-{
-    if number < 10 {
-        b'0' + number
-    } else {
-        b'a' + (number - 10)
-    }
 }

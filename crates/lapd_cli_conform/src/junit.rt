@@ -1,8 +1,6 @@
 //! Results as JUnit XML, as continuous integration reads it.
 
-ghost use Rattle.std.specs.Prelude.{◌≡◌, ◌++◌, OnOk};
-ghost use Rattle.lapd_cli_conform.specs.Junit.{escaped as escaped_text, octet_text as octet_of_text};
-
+use crate::escaped::{Format, push_escaped};
 use crate::results::{CaseReport, Grade};
 use crate::tally::Tally;
 use std::alloc::{AllocError, Global};
@@ -10,8 +8,8 @@ use std::alloc::{AllocError, Global};
 /// The end of a file of results.
 const END: &[u8] = b"</testsuite>\n</testsuites>\n";
 
-/// Appends the test case of a result, which took so many milliseconds. A case that fails is a
-/// failure; one that fails as is known, is inconclusive or does not apply is skipped.
+/// Appends the test case of a result, which took `time` milliseconds. A case that
+/// fails is a failure. A case that is known to fail, is inconclusive or does not apply is skipped.
 ///
 /// # Errors
 ///
@@ -23,9 +21,9 @@ pub fn push_test_case(
     time: u64,
 ) -> Result<(), AllocError> {
     text.extend_from_slice(b"<testcase classname=\"lapd conform\" name=\"")?;
-    push_escaped(text, report.name)?;
+    push_escaped(text, Format::Xml, report.name)?;
     text.push(b' ')?;
-    push_escaped(text, report.title)?;
+    push_escaped(text, Format::Xml, report.title)?;
     let (seconds, rest) = (time / 1_000, time % 1_000);
     let time = format!(in alloc; "\" time=\"{seconds}.{rest:03}\"")?;
     text.extend_from_slice(time.as_bytes())?;
@@ -43,15 +41,15 @@ pub fn push_test_case(
 
 fn push_failure(text: &mut Vec<u8>, report: &CaseReport<'_>) -> Result<(), AllocError> {
     text.extend_from_slice(b"><failure message=\"")?;
-    push_escaped(text, report.reason)?;
+    push_escaped(text, Format::Xml, report.reason)?;
     text.extend_from_slice(b"\">clause ")?;
-    push_escaped(text, report.clause)?;
+    push_escaped(text, Format::Xml, report.clause)?;
     if !report.wanted.is_empty() {
         text.extend_from_slice(b"; wanted ")?;
-        push_escaped(text, report.wanted)?;
+        push_escaped(text, Format::Xml, report.wanted)?;
     }
     text.extend_from_slice(b"; seen ")?;
-    push_escaped(text, report.seen)?;
+    push_escaped(text, Format::Xml, report.seen)?;
     text.extend_from_slice(b"</failure></testcase>\n")?;
     Ok(())
 }
@@ -59,7 +57,7 @@ fn push_failure(text: &mut Vec<u8>, report: &CaseReport<'_>) -> Result<(), Alloc
 fn push_skipped(text: &mut Vec<u8>, what: &[u8], reason: &[u8]) -> Result<(), AllocError> {
     text.extend_from_slice(b"><skipped message=\"")?;
     text.extend_from_slice(what)?;
-    push_escaped(text, reason)?;
+    push_escaped(text, Format::Xml, reason)?;
     text.extend_from_slice(b"\"/></testcase>\n")?;
     Ok(())
 }
@@ -83,31 +81,4 @@ pub fn junit_file(alloc: Global, tally: Tally, cases: &[u8]) -> Result<Vec<u8>, 
     text.extend_from_slice(cases)?;
     text.extend_from_slice(END)?;
     Ok(text)
-}
-
-/// Appends text of an attribute or an element. A control character, which XML has not, is a
-/// question mark.
-fn push_escaped(text: &mut Vec<u8>, value: &[u8]) -> Result<(), AllocError>
-    ensures { OnOk result (text.new.items ≡ text.old.items ++ escaped_text value.now) }
-{
-    let mut rest = value;
-    while let [octet, behind @ ..] = rest {
-        push_octet(text, *octet)?;
-        rest = behind;
-    }
-    Ok(())
-}
-
-fn push_octet(text: &mut Vec<u8>, octet: u8) -> Result<(), AllocError>
-    ensures { OnOk result (text.new.items ≡ text.old.items ++ octet_of_text octet) }
-{
-    match octet {
-        b'&' => text.extend_from_slice(b"&amp;")?,
-        b'<' => text.extend_from_slice(b"&lt;")?,
-        b'>' => text.extend_from_slice(b"&gt;")?,
-        b'"' => text.extend_from_slice(b"&quot;")?,
-        _ if octet < 32 => text.push(b'?')?,
-        _ => text.push(octet)?,
-    }
-    Ok(())
 }

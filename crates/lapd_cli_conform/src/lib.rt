@@ -8,21 +8,21 @@
 //! `lapd answer` of a dialogue.
 //!
 //! specs/, in order: `Reading` says how a word is read; `Settings` and `StackFiles` define stack
-//! files, `Patterns` patterns, `Tallies` the counts and the exit status, and `Results`, `Found`,
-//! `Json` and `Junit` the texts of a result.
+//! files, `Patterns` patterns, `Tallies` the counts and the exit status, `Escaped` text in JSON and
+//! XML, and `Results`, `Found` and `Json` the texts of a result.
 //!
-//! [`Run`] plays the cases of a suite's text against a station, and reports their results;
-//! [`DrawnRun`] draws stimuli in place of a suite. `Plans` says how many in which round.
+//! [`Run`] executes the cases of a suite's text against a station, and reports their results;
+//! [`DrawnRun`] draws stimuli in place of a suite. `Plans` has the number of stimuli of each round.
 #![tactic(auto)]
 
 mod answer_script;
 mod drawn;
+mod escaped;
 mod fault;
 mod found;
 mod json;
 mod junit;
 mod known;
-mod named;
 mod pattern;
 mod reading;
 mod reasons;
@@ -36,7 +36,7 @@ mod tally;
 
 pub use answer_script::push_answer_script;
 pub use drawn::{DrawCounts, DrawPlan, DrawnRun};
-pub use fault::{Fault, StackFault, Wanted};
+pub use fault::{Needed, SettingFault, StackFault};
 pub use found::push_found;
 pub use json::push_object;
 pub use junit::{junit_file, push_test_case};

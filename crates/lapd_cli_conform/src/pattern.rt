@@ -11,11 +11,11 @@ pub fn fits(pattern: &[u8], text: &[u8]) -> bool
         [] => text.is_empty(),
         [b'*', rest @ ..] => match text {
             [] => fits(rest, text),
-            [_, behind @ ..] => fits(rest, text) || fits(pattern, behind),
+            [_, others @ ..] => fits(rest, text) || fits(pattern, others),
         },
         [octet, rest @ ..] => match text {
             [] => false,
-            [first, behind @ ..] => octet == first && fits(rest, behind),
+            [first, others @ ..] => octet == first && fits(rest, others),
         },
     }
 }

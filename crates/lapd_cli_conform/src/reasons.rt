@@ -42,7 +42,7 @@ pub fn doubt_words(doubt: Doubt) -> &'static str {
     }
 }
 
-/// What the stack lacks for a case, as the object of "needs".
+/// The need of a case that the stack does not meet, as the object of "needs".
 pub fn lack_words(lacks: Lacks) -> &'static str {
     match lacks {
         Lacks::End => "the other end",

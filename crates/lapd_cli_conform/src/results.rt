@@ -56,7 +56,7 @@ pub struct CaseReport<'t> {
     pub title: &'t [u8],
     /// The clauses of Q.921 that the case tests.
     pub clause: &'t [u8],
-    /// What the stack lacks for the case.
+    /// The need of the case that the stack does not meet.
     pub needs: &'t [u8],
     /// Why the case failed, or nothing was decided; or that it passed and is known to fail.
     pub reason: &'t [u8],

@@ -37,7 +37,7 @@ pub enum Halt {
     Memory,
 }
 
-/// Where the results of a run are reported.
+/// Reports the results of a run.
 pub trait Reporter {
     /// A case begins: its number among the cases that are played, and their number.
     fn begin(&mut self, number: u64, count: u64, name: &str, title: &[u8]);
@@ -142,7 +142,7 @@ pub fn name_of(alloc: Global, case: &Case<'_>) -> Result<String, AllocError> {
 }
 
 impl<'a> Run<'a> {
-    /// A run of so many cases against this stack, of which some are known to fail.
+    /// A run of this number of cases against this stack, of which some are known to fail.
     pub fn new(
         alloc: Global,
         stack: &'a Stack,

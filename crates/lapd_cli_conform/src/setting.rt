@@ -1,14 +1,15 @@
 //! The settings of a stack file.
 
 ghost use Rattle.std.specs.Prelude.{◌≡◌, map};
-ghost use Rattle.lapd_cli_conform.specs.Reading.{ReadsAs, number_in, row_of};
+ghost use Rattle.lapd_conform_suite.specs.Words.{row_of};
+ghost use Rattle.lapd_cli_conform.specs.Reading.{ReadsAs, number_in};
 ghost use Rattle.lapd_cli_conform.specs.Settings.{activities as activities_rows, answers as answers_rows, idle_in, names as names_rows, no_requests, one_in, requests as requests_rows, requests_from, setting_by, setting_in, shares as shares_rows, tei_in, timer_in, with_request as with_request_row};
 
-use crate::fault::{Fault, Wanted};
-use crate::named::{Named, read_value};
-use crate::reading::{end, next, read_number};
+use crate::fault::{Needed, SettingFault};
+use crate::reading::{end, read_number, read_value};
 use lapd_cli_script::{Words, is_word};
 use lapd_conform::{Request, Requests};
+use lapd_conform_suite::{Named, take_word};
 
 /// The greatest duration of a timer, in milliseconds: an hour.
 const MOST_DURATION: u32 = 3_600_000;
@@ -142,21 +143,21 @@ fn answers() -> &'static [Named<bool>]
 }
 
 /// Reads a line of a stack file, which is neither empty nor a comment, without its line feed.
-pub(crate) fn read_setting<'s>(line: &'s [u8]) -> Result<Setting, Fault<'s>>
+pub(crate) fn read_setting<'s>(line: &'s [u8]) -> Result<Setting, SettingFault<'s>>
     ensures { ReadsAs (λ setting. setting) result (setting_in line.now) }
 {
     let mut words = Words::of(line);
-    let name = read_value(names(), Wanted::Name, next(&mut words))?;
+    let name = read_value(names(), Needed::Name, take_word(&mut words))?;
     read_by(name, words)
 }
 
-fn read_by<'s>(name: SettingName, mut words: Words<'s>) -> Result<Setting, Fault<'s>>
+fn read_by<'s>(name: SettingName, mut words: Words<'s>) -> Result<Setting, SettingFault<'s>>
     ensures { ReadsAs (λ setting. setting) result (setting_by name words.entry) }
 {
     match name {
         SettingName::Upper => read_upper(words),
         _ => {
-            let setting = read_one(name, next(&mut words))?;
+            let setting = read_one(name, take_word(&mut words))?;
             end(words)?;
             Ok(setting)
         }
@@ -164,60 +165,65 @@ fn read_by<'s>(name: SettingName, mut words: Words<'s>) -> Result<Setting, Fault
 }
 
 /// Reads the value of a setting that has one.
-fn read_one<'s>(name: SettingName, word: &'s [u8]) -> Result<Setting, Fault<'s>>
+fn read_one<'s>(name: SettingName, word: &'s [u8]) -> Result<Setting, SettingFault<'s>>
     ensures { ReadsAs (λ setting. setting) result (one_in name word.now) }
 {
     match name {
         SettingName::Tei => read_tei(word),
-        SettingName::Window => Ok(Setting::Window(read_small(word, 1, 127, Wanted::Window)?)),
-        SettingName::N200 => Ok(Setting::N200(read_small(word, 1, 100, Wanted::Times)?)),
-        SettingName::N202 => Ok(Setting::N202(read_small(word, 1, 100, Wanted::Times)?)),
+        SettingName::Window => Ok(Setting::Window(read_small(word, 1, 127, Needed::Window)?)),
+        SettingName::N200 => Ok(Setting::N200(read_small(word, 1, 100, Needed::Times)?)),
+        SettingName::N202 => Ok(Setting::N202(read_small(word, 1, 100, Needed::Times)?)),
         SettingName::T200 => Ok(Setting::T200(read_timer(word)?)),
         SettingName::T201 => Ok(Setting::T201(read_timer(word)?)),
         SettingName::T202 => Ok(Setting::T202(read_timer(word)?)),
         SettingName::T203 => read_idle(word),
-        SettingName::Sapis => Ok(Setting::Sapis(read_value(shares(), Wanted::Sapis, word)?)),
+        SettingName::Sapis => Ok(Setting::Sapis(read_value(shares(), Needed::Sapis, word)?)),
         SettingName::Active => Ok(Setting::Active(read_value(
             activities(),
-            Wanted::LayerThree,
+            Needed::LayerThree,
             word,
         )?)),
         SettingName::Upper => Ok(Setting::Upper(none())),
         SettingName::Confirms => Ok(Setting::Confirms(read_value(
             answers(),
-            Wanted::Confirms,
+            Needed::Confirms,
             word,
         )?)),
         SettingName::Delay => Ok(Setting::Delay(read_duration(
             word,
             0,
             MOST_DELAY,
-            Wanted::Delay,
+            Needed::Delay,
         )?)),
     }
 }
 
-fn read_tei<'s>(word: &'s [u8]) -> Result<Setting, Fault<'s>>
+fn read_tei<'s>(word: &'s [u8]) -> Result<Setting, SettingFault<'s>>
     ensures { ReadsAs (λ setting. setting) result (tei_in word.now) }
 {
     if is_word(word, b"automatic") {
         return Ok(Setting::Tei(None));
     }
-    Ok(Setting::Tei(Some(read_small(word, 0, 126, Wanted::Tei)?)))
+    Ok(Setting::Tei(Some(read_small(word, 0, 126, Needed::Tei)?)))
 }
 
 /// The duration of T203, which a stack may lack.
-fn read_idle<'s>(word: &'s [u8]) -> Result<Setting, Fault<'s>>
+fn read_idle<'s>(word: &'s [u8]) -> Result<Setting, SettingFault<'s>>
     ensures { ReadsAs (λ setting. setting) result (idle_in word.now) }
 {
     if is_word(word, b"none") {
         return Ok(Setting::T203(None));
     }
-    Ok(Setting::T203(Some(read_duration(word, 1, MOST_DURATION, Wanted::IdleDuration)?)))
+    Ok(Setting::T203(Some(read_duration(word, 1, MOST_DURATION, Needed::IdleDuration)?)))
 }
 
 /// Reads a number of one octet.
-fn read_small<'s>(word: &'s [u8], least: u8, most: u8, wanted: Wanted) -> Result<u8, Fault<'s>>
+fn read_small<'s>(
+    word: &'s [u8],
+    least: u8,
+    most: u8,
+    wanted: Needed,
+) -> Result<u8, SettingFault<'s>>
     ensures { ReadsAs (λ number. number) result (number_in least most wanted word.now) }
 {
     match read_number(word, u64::from(least), u64::from(most), wanted) {
@@ -227,10 +233,10 @@ fn read_small<'s>(word: &'s [u8], least: u8, most: u8, wanted: Wanted) -> Result
 }
 
 /// Reads the duration of a timer that each stack has.
-fn read_timer<'s>(word: &'s [u8]) -> Result<u32, Fault<'s>>
+fn read_timer<'s>(word: &'s [u8]) -> Result<u32, SettingFault<'s>>
     ensures { ReadsAs (λ number. number) result (timer_in word.now) }
 {
-    read_duration(word, 1, MOST_DURATION, Wanted::Duration)
+    read_duration(word, 1, MOST_DURATION, Needed::Duration)
 }
 
 /// Reads milliseconds.
@@ -238,8 +244,8 @@ fn read_duration<'s>(
     word: &'s [u8],
     least: u32,
     most: u32,
-    wanted: Wanted,
-) -> Result<u32, Fault<'s>>
+    wanted: Needed,
+) -> Result<u32, SettingFault<'s>>
     ensures { ReadsAs (λ number. number) result (number_in least most wanted word.now) }
 {
     match read_number(word, u64::from(least), u64::from(most), wanted) {
@@ -249,12 +255,12 @@ fn read_duration<'s>(
 }
 
 /// Reads the requests that an upper tester takes, to the end of the line.
-fn read_upper<'s>(mut words: Words<'s>) -> Result<Setting, Fault<'s>>
+fn read_upper<'s>(mut words: Words<'s>) -> Result<Setting, SettingFault<'s>>
     ensures { ReadsAs (λ setting. setting) result (requests_from no_requests words.entry) }
 {
     let mut taken = none();
     while let Some(word) = words.next_word() {
-        let request = read_value(requests(), Wanted::Request, word)?;
+        let request = read_value(requests(), Needed::Request, word)?;
         taken = with_request(taken, request);
     }
     Ok(Setting::Upper(taken))

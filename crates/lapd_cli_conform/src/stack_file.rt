@@ -1,14 +1,14 @@
 //! Stack files: the parameters of the stack under test.
 
-ghost use Rattle.std.specs.Prelude.{◌≡◌, ◌<◌, ◌∷◌, ◌+◌, [], List, ℕ, IfNone, IfSome, length};
-ghost use Rattle.lapd_cli_script.specs.Script.{lines_of};
+ghost use Rattle.std.specs.Prelude.{◌≡◌, ◌∷◌, ◌+◌, List, ℕ};
 ghost use Rattle.lapd_cli_conform.specs.Settings.{with_setting as with_setting_row};
 ghost use Rattle.lapd_cli_conform.specs.StackFiles.{GoesOn, ReadsAt, side_requests as side_requests_of, stack_from, stack_in, usual, without_requests};
 
 use crate::fault::StackFault;
 use crate::setting::{Setting, none, read_setting};
-use lapd_cli_script::{first_line, is_passed_over};
+use lapd_cli_script::is_passed_over;
 use lapd_conform::{Requests, Stack};
+use lapd_conform_suite::next_line;
 use lapd_frame::Side;
 
 /// A stack of this side with the usual values of Q.921 5.9 for basic access, and those of our own
@@ -126,21 +126,5 @@ fn with_setting(stack: Stack, setting: Setting) -> Stack
         Setting::Upper(requests) => Stack { requests, ..stack },
         Setting::Confirms(confirms) => Stack { confirms, ..stack },
         Setting::Delay(delay) => Stack { delay, ..stack },
-    }
-}
-
-/// The first line, and the text behind it. Returns `None` at the end.
-#[tactic(auto, using(crate::proofs::TextLines::line_behind, crate::proofs::TextLines::last_line))]
-fn next_line(text: &[u8]) -> Option<(&[u8], &[u8])>
-    ensures none { IfNone result (lines_of text.now ≡ []) }
-    ensures some { IfSome result (λ parts. lines_of text.now ≡ parts.0.now ∷ lines_of parts.1.now) }
-    ensures shorter { IfSome result (λ parts. length parts.1.now < length text.now) }
-{
-    if text.is_empty() {
-        return None;
-    }
-    match first_line(text) {
-        Some((line, rest)) => Some((line, rest)),
-        None => Some((text, &[])),
     }
 }

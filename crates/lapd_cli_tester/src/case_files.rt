@@ -6,7 +6,7 @@ ghost use Rattle.std.specs.Prelude.{◌≤◌, length};
 use crate::refused::{print_memory, print_no_file};
 use lapd_capture::{FILE_HEADER, MOST_FRAME, record_of};
 use lapd_cli_conform::{CaseReport, Happening, Played, Stack, What, push_answer_script, push_line};
-use lapd_conform::Ask;
+use lapd_conform::request_word;
 use lapd_frame::Side;
 use std::alloc::{AllocError, Global};
 use std::fs::{self, File};
@@ -136,7 +136,7 @@ fn sender_of(side: Side, what: What) -> Option<Side> {
     match what {
         What::Sent => Some(peer_of(side)),
         What::Received => Some(side),
-        What::Asked(_) => None,
+        What::Requested(_) => None,
     }
 }
 
@@ -238,8 +238,8 @@ fn push_happening(
 ) -> Result<(), AllocError> {
     let moment = happening.at.saturating_sub(start);
     let line = match happening.what {
-        What::Asked(ask) => {
-            let word = ask_word(ask);
+        What::Requested(request) => {
+            let word = request_word(request);
             format!(in alloc; "# {moment} ms: the upper tester: {word}\n")?
         }
         _ => format!(in alloc; "# {moment} ms\n")?,
@@ -271,15 +271,4 @@ fn push_frame(
     }
     text.push(b'\n')?;
     Ok(())
-}
-
-fn ask_word(ask: Ask) -> &'static str {
-    match ask {
-        Ask::Establish => "establish",
-        Ask::Release => "release",
-        Ask::Give => "give",
-        Ask::Unit => "unit",
-        Ask::Busy(true) => "busy",
-        Ask::Busy(false) => "ready",
-    }
 }

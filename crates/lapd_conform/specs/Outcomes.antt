@@ -12,7 +12,7 @@ abbrev pub place_refused : Judgement → Option ℕ
 place_refused (Refused place) = Some place
 place_refused other = None
 
--- A case that failed has the frame that is refused. One that passed reached its purpose, and no
+-- A case that failed has the frame that is refused. A case that passed reached its purpose, and no
 -- frame is refused.
 pub record HasReasons (p : Played) : Type 0 where
   pub failed : p.verdict ≡ Fail → is_some p.refused ≡ true

@@ -5,8 +5,8 @@ use Rattle.lapd_conform.specs.declared.judgement.Judgement.TheVariants.{Allowed,
 use Rattle.lapd_conform.specs.declared.judgement.Verdict.{Verdict}
 use Rattle.lapd_conform.specs.declared.judgement.Verdict.TheVariants.{Pass, Fail, Inconclusive}
 
--- A case fails if and only if no run of an allowed table gives the frames. It passes if some run
--- gives them and the purpose was reached.
+-- A case fails if and only if no run of an allowed table has the frames. It passes if some run has
+-- them and the purpose was reached.
 abbrev pub verdict_of : Bool → Judgement → Verdict
 verdict_of reached (Refused place) = Fail
 verdict_of true Allowed = Pass

@@ -1,8 +1,8 @@
-//! An end that may have given the dialogue so far.
+//! An end whose dialogue may be the one so far.
 
-use crate::owed::Owed;
-use crate::replay::{Dialogue, Facts, Move, Replay, is_request_to_establish, replayed};
-use lapd_conform_player::{Ask, What};
+use crate::link_frame::LinkFrame;
+use crate::own_link::OwnLink;
+use crate::replay::{Dialogue, Facts, Move};
 use lapd_link::{Control, Out, Recovery, Role, State, Timer};
 use std::alloc::AllocError;
 
@@ -16,23 +16,24 @@ pub(crate) struct Due {
 /// The moves that a candidate may make next.
 pub(crate) const MOST_STEPS: usize = 7;
 
-/// An end, the moves that it made, and the frames of its that the tester has not yet received.
+/// An end, the moves that it made, and the frames that it has sent and the tester has not
+/// yet received, which are pending.
 #[derive(Drop)]
 pub(crate) struct Candidate {
-    run: Replay,
+    link: OwnLink,
     moves: Vec<Move>,
     /// The frame that it sends when T200 expires in state 7, and whether this was decided: until
     /// then both are possible (Q.921 5.6.7).
-    recovery: Recovery,
+    pub recovery: Recovery,
     is_decided: bool,
     facts: Facts,
-    /// The places of the first frame and the first request that it may not have taken.
-    heard: usize,
-    asked: usize,
+    /// The places of the first frame and the first request that it may not have processed.
+    received: usize,
+    requested: usize,
     t200: Option<Due>,
     t203: Option<Due>,
-    owed: Vec<Owed>,
-    /// The moment by which it had sent what it owes.
+    pending: Vec<LinkFrame>,
+    /// The moment by which it had sent the pending frames.
     since: u64,
     /// The earliest moment of its last move.
     earliest: u64,
@@ -45,58 +46,47 @@ pub(crate) struct Candidate {
 }
 
 impl Candidate {
-    /// A new end. `None` if the setup has no address of a link.
-    pub fn new(dialogue: &Dialogue<'_>) -> Result<Option<Candidate>, AllocError> {
-        match replayed(dialogue, Recovery::Enquiry, &[])? {
-            Some(run) => Ok(Some(Candidate {
-                facts: run.facts(),
-                run,
-                moves: Vec::new(dialogue.alloc),
-                recovery: Recovery::Enquiry,
-                is_decided: false,
-                heard: 0,
-                asked: 0,
-                t200: None,
-                t203: None,
-                owed: Vec::new(dialogue.alloc),
-                since: 0,
-                earliest: 0,
-                spare: false,
-                repeats: false,
-                last: None,
-            })),
-            None => Ok(None),
-        }
+    /// A new end.
+    pub fn new(dialogue: &Dialogue<'_>) -> Result<Candidate, AllocError> {
+        let link = dialogue.replay(Recovery::Enquiry, &[])?;
+        Ok(Candidate {
+            facts: Facts::of(link.link()),
+            link,
+            moves: Vec::new(dialogue.alloc),
+            recovery: Recovery::Enquiry,
+            is_decided: false,
+            received: 0,
+            requested: 0,
+            t200: None,
+            t203: None,
+            pending: Vec::new(dialogue.alloc),
+            since: 0,
+            earliest: 0,
+            spare: false,
+            repeats: false,
+            last: None,
+        })
     }
 
     /// A copy whose link has this recovery: its moves are replayed on a new link.
-    fn copy(
-        &self,
-        dialogue: &Dialogue<'_>,
-        recovery: Recovery,
-    ) -> Result<Option<Candidate>, AllocError> {
-        let moves = self.moves.clone()?;
-        let owed = self.owed.clone()?;
-        match replayed(dialogue, recovery, moves.as_slice())? {
-            Some(run) => Ok(Some(Candidate {
-                run,
-                moves,
-                recovery,
-                is_decided: self.is_decided,
-                facts: self.facts,
-                heard: self.heard,
-                asked: self.asked,
-                t200: self.t200,
-                t203: self.t203,
-                owed,
-                since: self.since,
-                earliest: self.earliest,
-                spare: self.spare,
-                repeats: self.repeats,
-                last: self.last,
-            })),
-            None => Ok(None),
-        }
+    fn copy(&self, dialogue: &Dialogue<'_>, recovery: Recovery) -> Result<Candidate, AllocError> {
+        Ok(Candidate {
+            link: dialogue.replay(recovery, self.moves.as_slice())?,
+            moves: self.moves.clone()?,
+            recovery,
+            is_decided: self.is_decided,
+            facts: self.facts,
+            received: self.received,
+            requested: self.requested,
+            t200: self.t200,
+            t203: self.t203,
+            pending: self.pending.clone()?,
+            since: self.since,
+            earliest: self.earliest,
+            spare: self.spare,
+            repeats: self.repeats,
+            last: self.last,
+        })
     }
 
     /// How many moves it has made.
@@ -109,14 +99,14 @@ impl Candidate {
         self.recovery == other.recovery
             && self.is_decided == other.is_decided
             && self.facts == other.facts
-            && self.heard == other.heard
-            && self.asked == other.asked
+            && self.received == other.received
+            && self.requested == other.requested
             && self.t200.is_some() == other.t200.is_some()
             && self.t203.is_some() == other.t203.is_some()
             && self.spare == other.spare
             && self.repeats == other.repeats
             && self.last == other.last
-            && self.owed.as_slice() == other.owed.as_slice()
+            && self.pending.as_slice() == other.pending.as_slice()
     }
 
     /// Takes the moments of a candidate that is like this one into account.
@@ -127,19 +117,19 @@ impl Candidate {
         self.earliest = self.earliest.min(other.earliest);
     }
 
-    /// Whether it has to go on before it may send: it owes nothing but acknowledgements.
+    /// Whether it may make a move: nothing but acknowledgements is pending.
     pub fn may_go_on(&self) -> bool {
-        for owed in &self.owed {
-            if !owed.is_acknowledgement() {
+        for frame in &self.pending {
+            if !frame.is_acknowledgement() {
                 return false;
             }
         }
         true
     }
 
-    /// Whether a frame that it owes is overdue at this moment.
+    /// Whether a pending frame is overdue at this moment.
     pub fn is_overdue(&self, dialogue: &Dialogue<'_>, now: u64) -> bool {
-        !self.owed.is_empty() && has_passed(self.since, dialogue.setup.patience(), now)
+        !self.pending.is_empty() && has_passed(self.since, dialogue.setup.patience(), now)
     }
 
     /// Whether it must have made a move by this moment.
@@ -151,30 +141,19 @@ impl Candidate {
         } else {
             patience
         };
-        let heard = self.next(dialogue, What::Sent, self.heard, before);
-        let asked = self.next(dialogue, ASKED, self.asked, before);
-        is_late(dialogue, heard, reach, now)
-            || is_late(dialogue, asked, request_reach, now)
+        let (sent, requested) = self.next(dialogue, before);
+        is_late(dialogue, sent, reach, now)
+            || is_late(dialogue, requested, request_reach, now)
             || has_expired(self.t200, patience, now)
             || has_expired(self.t203, patience, now)
     }
 
-    /// The place of its next frame or request, before this place of the dialogue.
-    fn next(
-        &self,
-        dialogue: &Dialogue<'_>,
-        what: What,
-        from: usize,
-        before: usize,
-    ) -> Option<usize> {
-        for place in from..before {
-            if let Some(happening) = dialogue.happenings.get(place)
-                && happening.what.is_like(what)
-            {
-                return Some(place);
-            }
-        }
-        None
+    /// The places of the next frame and the next request for it, before this place of the dialogue.
+    fn next(&self, dialogue: &Dialogue<'_>, before: usize) -> (Option<usize>, Option<usize>) {
+        (
+            dialogue.next_sent(self.received, before),
+            dialogue.next_request(self.requested, before),
+        )
     }
 
     /// The moves that it may have made by this moment, before this place of the dialogue.
@@ -184,12 +163,11 @@ impl Candidate {
         before: usize,
         now: u64,
     ) -> [Option<Move>; MOST_STEPS] {
-        let sent = self.next(dialogue, What::Sent, self.heard, before);
-        let asked = self.next(dialogue, ASKED, self.asked, before);
+        let (sent, requested) = self.next(dialogue, before);
         let is_idle = matches!(self.facts.state, State::TeiAssigned);
-        let limit = self.expiry_limit(dialogue, sent, asked).min(now);
+        let limit = self.expiry_limit(dialogue, sent, requested).min(now);
         [
-            self.expires(self.t203, Move::T203, limit),
+            expires(self.t203, Timer::T203, limit),
             if dialogue.setup.active && is_idle {
                 Some(Move::Establish)
             } else {
@@ -198,16 +176,16 @@ impl Candidate {
             if dialogue.setup.confirmed {
                 None
             } else {
-                skip(asked)
+                requested.map(|place| Move::Skip(place))
             },
             if is_idle {
-                requested(dialogue, sent)
+                request_to_establish(dialogue, sent)
             } else {
                 None
             },
-            self.expires(self.t200, Move::T200, limit),
-            ask(asked),
-            hear(sent),
+            expires(self.t200, Timer::T200, limit),
+            requested.map(|place| Move::Request(place)),
+            sent.map(|place| Move::Receive(place)),
         ]
     }
 
@@ -217,11 +195,11 @@ impl Candidate {
         &self,
         dialogue: &Dialogue<'_>,
         sent: Option<usize>,
-        asked: Option<usize>,
+        requested: Option<usize>,
     ) -> u64 {
         let limit = taken_by(dialogue, sent);
         if dialogue.setup.confirmed {
-            limit.min(taken_by(dialogue, asked))
+            limit.min(taken_by(dialogue, requested))
         } else {
             limit
         }
@@ -237,49 +215,24 @@ impl Candidate {
         false
     }
 
-    /// This move, if the timer may have expired by this moment.
-    fn expires(&self, timer: Option<Due>, step: Move, now: u64) -> Option<Move> {
-        match timer {
-            Some(due) if due.earliest <= now => Some(step),
-            _ => None,
-        }
-    }
-
     /// Whether the move decides which frame the end sends when T200 expires in state 7.
     pub fn decides(&self, step: Move) -> bool {
         let is_open = matches!(self.facts.state, State::MultipleFrameEstablished);
-        !self.is_decided && is_open && matches!(step, Move::T200)
+        !self.is_decided && is_open && matches!(step, Move::Expire(Timer::T200))
     }
 
-    /// The candidate after one more move, which was made by the moment `now`.
+    /// The candidate after one more move, which was made by the moment `now`. Its link has this
+    /// recovery.
     pub fn after(
         &self,
         dialogue: &Dialogue<'_>,
+        recovery: Recovery,
         step: Move,
         now: u64,
-    ) -> Result<Option<Candidate>, AllocError> {
-        match self.copy(dialogue, self.recovery)? {
-            Some(mut child) => {
-                child.advance(dialogue, step, now)?;
-                Ok(Some(child))
-            }
-            None => Ok(None),
-        }
-    }
-
-    /// The candidate after T200 has expired in state 7, if it sends the last I frame then.
-    pub fn after_last_message(
-        &self,
-        dialogue: &Dialogue<'_>,
-        now: u64,
-    ) -> Result<Option<Candidate>, AllocError> {
-        match self.copy(dialogue, Recovery::LastMessage)? {
-            Some(mut child) => {
-                child.advance(dialogue, Move::T200, now)?;
-                Ok(Some(child))
-            }
-            None => Ok(None),
-        }
+    ) -> Result<Candidate, AllocError> {
+        let mut child = self.copy(dialogue, recovery)?;
+        child.advance(dialogue, step, now)?;
+        Ok(child)
     }
 
     /// Makes a move, which was made by the moment `now`.
@@ -291,7 +244,7 @@ impl Candidate {
     ) -> Result<(), AllocError> {
         self.is_decided = self.is_decided || self.decides(step);
         self.moves.push(step)?;
-        self.run.step(dialogue, step)?;
+        dialogue.step(&mut self.link, step)?;
         self.count(dialogue, step, now);
         self.take(dialogue, step, now)
     }
@@ -299,16 +252,16 @@ impl Candidate {
     /// Notes what the move takes, and its moments.
     fn count(&mut self, dialogue: &Dialogue<'_>, step: Move, now: u64) {
         let cause = match step {
-            Move::Hear(place) | Move::HearRequest(place) => {
-                self.heard = place.saturating_add(1);
+            Move::Receive(place) | Move::ReceiveRequest(place) => {
+                self.received = place.saturating_add(1);
                 moment_of(dialogue, place, now)
             }
-            Move::Ask(place) | Move::Skip(place) => {
-                self.asked = place.saturating_add(1);
+            Move::Request(place) | Move::Skip(place) => {
+                self.requested = place.saturating_add(1);
                 moment_of(dialogue, place, now)
             }
-            Move::T200 => expired(&mut self.t200, now),
-            Move::T203 => expired(&mut self.t203, now),
+            Move::Expire(Timer::T200) => expired(&mut self.t200, now),
+            Move::Expire(_) => expired(&mut self.t203, now),
             Move::Establish => Due {
                 earliest: self.earliest,
                 latest: now,
@@ -321,12 +274,12 @@ impl Candidate {
     /// Carries out the outputs of the last move.
     fn take(&mut self, dialogue: &Dialogue<'_>, step: Move, now: u64) -> Result<(), AllocError> {
         self.repeats = self.is_repeated(dialogue, step);
-        self.facts = self.run.facts();
-        if matches!(step, Move::T200) {
+        self.facts = Facts::of(self.link.link());
+        if matches!(step, Move::Expire(Timer::T200)) {
             self.last = self.facts.last();
         }
         let until = self.since_of(dialogue, step, now);
-        for place in 0..self.run.outs.len() {
+        for place in 0..self.link.outs().len() {
             if let Some(out) = self.output(place) {
                 self.put(dialogue, out, until)?;
             }
@@ -336,31 +289,27 @@ impl Candidate {
 
     /// The output of the last move at this place.
     fn output(&self, place: usize) -> Option<Out> {
-        self.run.outs.as_slice().get(place).copied()
+        self.link.outs().get(place).copied()
     }
 
     /// The latest moment of the last move. A frame of the tester is taken soon after it was sent, also
     /// if nothing shows that before the end of the dialogue.
     fn since_of(&self, dialogue: &Dialogue<'_>, step: Move, now: u64) -> u64 {
         match step {
-            Move::T200 | Move::T203 => self.since,
-            Move::Hear(place) | Move::HearRequest(place) => {
+            Move::Expire(_) => self.since,
+            Move::Receive(place) | Move::ReceiveRequest(place) => {
                 now.min(taken_by(dialogue, Some(place)))
             }
-            Move::Ask(_) | Move::Skip(_) | Move::Establish => now,
+            Move::Request(_) | Move::Skip(_) | Move::Establish => now,
         }
     }
 
     /// Whether the move takes an I frame out of sequence with P=1.
     fn is_repeated(&self, dialogue: &Dialogue<'_>, step: Move) -> bool {
         match step {
-            Move::Hear(place) => match dialogue.happenings.get(place) {
-                Some(happening) => is_out_of_sequence(
-                    happening.octets.as_slice(),
-                    self.facts.vr().value(),
-                ),
-                None => false,
-            },
+            Move::Receive(place) => {
+                is_out_of_sequence(dialogue.octets(place), self.facts.vr().value())
+            }
             _ => false,
         }
     }
@@ -368,8 +317,8 @@ impl Candidate {
     /// Carries out one output of a move that was made by the moment `until`.
     fn put(&mut self, dialogue: &Dialogue<'_>, out: Out, until: u64) -> Result<(), AllocError> {
         match out {
-            Out::Send(role, control) => self.owe(role, control)?,
-            Out::SendMessage(_, control) => self.owe(Role::Command, control)?,
+            Out::Send(role, control) => self.send(role, control)?,
+            Out::SendMessage(_, control) => self.send(Role::Command, control)?,
             Out::Up => self.spare = true,
             Out::Start(Timer::T200) => {
                 self.t200 = Some(self.due(dialogue, dialogue.setup.t200, until));
@@ -387,8 +336,8 @@ impl Candidate {
         Ok(())
     }
 
-    fn owe(&mut self, role: Role, control: Control) -> Result<(), AllocError> {
-        self.owed.push(Owed { role, control })?;
+    fn send(&mut self, role: Role, control: Control) -> Result<(), AllocError> {
+        self.pending.push(LinkFrame { role, control })?;
         Ok(())
     }
 
@@ -399,41 +348,37 @@ impl Candidate {
         }
     }
 
-    /// Whether this frame may come next.
-    pub fn may_send(&self, seen: &Owed) -> bool {
+    /// Whether this frame may be the next one.
+    pub fn may_send(&self, seen: &LinkFrame) -> bool {
         self.place_of(seen).is_some() || self.acknowledges_again(seen)
     }
 
-    /// Notes that the tester has received this frame, which may come next.
-    pub fn send(&mut self, seen: &Owed, now: u64) {
+    /// Notes that the tester has received this frame, which may be the next one.
+    pub fn deliver(&mut self, seen: &LinkFrame, now: u64) {
         if let Some(place) = self.place_of(seen) {
             self.receive(place, seen.has_receive_number(), now);
         }
     }
 
     /// The candidate after the tester has received this frame.
-    pub fn after_sending(
+    pub fn after_delivery(
         &self,
         dialogue: &Dialogue<'_>,
-        seen: &Owed,
+        seen: &LinkFrame,
         now: u64,
-    ) -> Result<Option<Candidate>, AllocError> {
-        match self.copy(dialogue, self.recovery)? {
-            Some(mut child) => {
-                child.send(seen, now);
-                Ok(Some(child))
-            }
-            None => Ok(None),
-        }
+    ) -> Result<Candidate, AllocError> {
+        let mut child = self.copy(dialogue, self.recovery)?;
+        child.deliver(seen, now);
+        Ok(child)
     }
 
-    /// The place of the frame among those that it owes. Messages keep their order.
-    fn place_of(&self, seen: &Owed) -> Option<usize> {
-        for place in 0..self.owed.len() {
-            if self.owed[place].is_met_by(seen, self.last, self.repeats) {
+    /// The place of the frame among the pending ones. Messages keep their order.
+    fn place_of(&self, seen: &LinkFrame) -> Option<usize> {
+        for place in 0..self.pending.len() {
+            if self.pending[place].is_met_by(seen, self.last, self.repeats) {
                 return Some(place);
             }
-            if seen.is_message() && self.owed[place].is_message() {
+            if seen.is_message() && self.pending[place].is_message() {
                 return None;
             }
         }
@@ -443,8 +388,8 @@ impl Candidate {
     /// Removes a frame that the tester received. If it has N(R), it also takes the place of all
     /// acknowledgements before it.
     fn receive(&mut self, place: usize, acknowledges: bool, now: u64) {
-        if place < self.owed.len() {
-            let _ = self.owed.remove(place);
+        if place < self.pending.len() {
+            let _ = self.pending.remove(place);
         }
         if acknowledges {
             for _turn in 0..place {
@@ -456,13 +401,13 @@ impl Candidate {
 
     /// Removes the first frame, if it is an acknowledgement alone.
     fn remove_acknowledgement(&mut self) {
-        if !self.owed.is_empty() && self.owed[0].is_acknowledgement() {
-            let _ = self.owed.remove(0);
+        if !self.pending.is_empty() && self.pending[0].is_acknowledgement() {
+            let _ = self.pending.remove(0);
         }
     }
 
     /// Whether the frame is RR with F=0 that acknowledges once more what was taken.
-    fn acknowledges_again(&self, seen: &Owed) -> bool {
+    fn acknowledges_again(&self, seen: &LinkFrame) -> bool {
         match seen.control {
             Control::Rr { nr, pf: false } => self.spare && nr.value() == self.facts.vr().value(),
             _ => false,
@@ -470,63 +415,40 @@ impl Candidate {
     }
 }
 
-fn hear(place: Option<usize>) -> Option<Move> {
-    match place {
-        Some(place) => Some(Move::Hear(place)),
-        None => None,
-    }
-}
-
-fn ask(place: Option<usize>) -> Option<Move> {
-    match place {
-        Some(place) => Some(Move::Ask(place)),
-        None => None,
-    }
-}
-
-fn skip(place: Option<usize>) -> Option<Move> {
-    match place {
-        Some(place) => Some(Move::Skip(place)),
-        None => None,
+/// The move of this timer, if it may have expired by this moment.
+fn expires(due: Option<Due>, timer: Timer, now: u64) -> Option<Move> {
+    match due {
+        Some(due) if due.earliest <= now => Some(Move::Expire(timer)),
+        _ => None,
     }
 }
 
 /// The move that takes the frame at this place as a request to establish the link.
-fn requested(dialogue: &Dialogue<'_>, place: Option<usize>) -> Option<Move> {
+fn request_to_establish(dialogue: &Dialogue<'_>, place: Option<usize>) -> Option<Move> {
     let place = place?;
-    let happening = dialogue.happenings.get(place)?;
-    if is_request_to_establish(&dialogue.setup, happening.octets.as_slice()) {
-        Some(Move::HearRequest(place))
+    if dialogue.is_request_to_establish(place) {
+        Some(Move::ReceiveRequest(place))
     } else {
         None
     }
 }
-
-/// A request, of whatever kind.
-const ASKED: What = What::Asked(Ask::Establish);
 
 /// Whether this much time has passed since a moment.
 fn has_passed(since: u64, time: u64, now: u64) -> bool {
     since.saturating_add(time) < now
 }
 
-/// The moment by which the frame or request at this place is taken, if there is one.
+/// The moment by which the frame or request at this place is processed, if there is one.
 fn taken_by(dialogue: &Dialogue<'_>, place: Option<usize>) -> u64 {
-    match place {
-        Some(place) => match dialogue.happenings.get(place) {
-            Some(happening) => happening.at.saturating_add(dialogue.setup.reach()),
-            None => u64::MAX,
-        },
+    match dialogue.moment(place) {
+        Some(at) => at.saturating_add(dialogue.setup.reach()),
         None => u64::MAX,
     }
 }
 
 fn is_late(dialogue: &Dialogue<'_>, place: Option<usize>, patience: u64, now: u64) -> bool {
-    match place {
-        Some(place) => match dialogue.happenings.get(place) {
-            Some(happening) => has_passed(happening.at, patience, now),
-            None => false,
-        },
+    match dialogue.moment(place) {
+        Some(at) => has_passed(at, patience, now),
         None => false,
     }
 }
@@ -550,10 +472,7 @@ fn expired(timer: &mut Option<Due>, now: u64) -> Due {
 
 /// The moment of a frame or request of the tester, from which an answer is due.
 fn moment_of(dialogue: &Dialogue<'_>, place: usize, now: u64) -> Due {
-    let at = match dialogue.happenings.get(place) {
-        Some(happening) => happening.at,
-        None => now,
-    };
+    let at = dialogue.moment(Some(place)).unwrap_or(now);
     Due {
         earliest: at,
         latest: at,

@@ -1,35 +1,35 @@
-//! The set of all ends that may have given a dialogue.
+//! The set of all ends whose dialogue may be a given one.
 
 use crate::candidate::Candidate;
 use crate::eager::is_given;
 use crate::judgement::Judgement;
-use crate::owed::{Owed, Seen, frame_seen};
+use crate::link_frame::{LinkFrame, Seen, frame_seen};
 use crate::replay::{Dialogue, Move};
 use crate::setup::Setup;
 use lapd_conform_player::{Happening, What};
-use lapd_link::{Control, Role};
+use lapd_link::{Control, Recovery, Role};
 use std::alloc::{AllocError, Global};
 use std::mem;
 
 /// The greatest number of candidates that are followed.
 const MOST_CANDIDATES: usize = 256;
 
-/// The greatest number of candidates that are looked at for one happening.
+/// The greatest number of candidates that are examined for one happening.
 const MOST_TURNS: usize = 4_000;
 
 /// The greatest number of moves that are replayed for one dialogue.
 const MOST_REPLAYED: usize = 1_000_000;
 
-/// The candidates before a happening that are still to be looked at, and those after it.
+/// The candidates before a happening that are still to be examined, and those after it.
 #[derive(Drop)]
 struct Candidates {
     open: Vec<Candidate>,
     kept: Vec<Candidate>,
-    /// How many moves may still be replayed.
+    /// The number of moves that may still be replayed.
     left: usize,
 }
 
-/// Whether some run of an allowed table gives this dialogue, which ended at the moment `until`.
+/// Whether some run of an allowed table has this dialogue, which ended at the moment `until`.
 ///
 /// The stack is in state 4 at the beginning, and has no frame of the tester to process.
 ///
@@ -55,19 +55,11 @@ pub fn judge(
         kept: Vec::new(alloc),
         left: MOST_REPLAYED,
     };
-    candidates.begin(&dialogue)?;
+    candidates.kept.push(Candidate::new(&dialogue)?)?;
     candidates.follow(&dialogue, until)
 }
 
 impl Candidates {
-    /// A new end.
-    fn begin(&mut self, dialogue: &Dialogue<'_>) -> Result<(), AllocError> {
-        if let Some(candidate) = Candidate::new(dialogue)? {
-            self.kept.push(candidate)?;
-        }
-        Ok(())
-    }
-
     /// Follows all happenings.
     fn follow(&mut self, dialogue: &Dialogue<'_>, until: u64) -> Result<Judgement, AllocError> {
         for place in 0..dialogue.happenings.len() {
@@ -90,17 +82,17 @@ impl Candidates {
     ) -> Result<Judgement, AllocError> {
         match happening.what {
             What::Received => self.receive(dialogue, place, happening),
-            What::Sent | What::Asked(_) => self.settle(dialogue, place, happening.at),
+            What::Sent | What::Requested(_) => self.settle(dialogue, place, happening.at),
         }
     }
 
-    /// What was kept is to be looked at.
+    /// The kept candidates are to be examined.
     fn open(&mut self) {
         self.open.clear();
         mem::swap(&mut self.open, &mut self.kept);
     }
 
-    /// The judgement after all open candidates were looked at, or not.
+    /// The judgement on the kept candidates. `is_done` if all open candidates were examined.
     fn judgement(&self, is_done: bool, place: usize) -> Judgement {
         if !is_done || self.left == 0 || self.kept.len() > MOST_CANDIDATES {
             Judgement::TooMany
@@ -165,7 +157,7 @@ impl Candidates {
         self.open_last(dialogue, candidate, last, now)
     }
 
-    /// The candidate to be looked at next. None is once too many moves were replayed.
+    /// The candidate to be examined next. `None` if there is none, or too many moves were replayed.
     fn next(&mut self) -> Option<Candidate> {
         if self.left == 0 {
             None
@@ -190,9 +182,8 @@ impl Candidates {
         if let Some(step) = step {
             self.spend(candidate);
             self.open_decision(dialogue, candidate, step, now)?;
-            if let Some(child) = candidate.after(dialogue, step, now)? {
-                keep(&mut self.open, child)?;
-            }
+            let child = candidate.after(dialogue, candidate.recovery, step, now)?;
+            keep(&mut self.open, child)?;
         }
         Ok(())
     }
@@ -205,9 +196,8 @@ impl Candidates {
         step: Move,
         now: u64,
     ) -> Result<(), AllocError> {
-        if candidate.decides(step)
-            && let Some(child) = candidate.after_last_message(dialogue, now)?
-        {
+        if candidate.decides(step) {
+            let child = candidate.after(dialogue, Recovery::LastMessage, step, now)?;
             keep(&mut self.open, child)?;
         }
         Ok(())
@@ -237,7 +227,7 @@ impl Candidates {
         happening: &Happening,
     ) -> Result<Judgement, AllocError> {
         match frame_seen(&dialogue.setup, happening.octets.as_slice()) {
-            Seen::Beside => Ok(Judgement::Allowed),
+            Seen::Other => Ok(Judgement::Allowed),
             Seen::Wrong => Ok(Judgement::Refused(place)),
             Seen::Link(frame) => {
                 let before = self.settle(dialogue, place, happening.at)?;
@@ -254,7 +244,7 @@ impl Candidates {
         dialogue: &Dialogue<'_>,
         place: usize,
         now: u64,
-        frame: &Owed,
+        frame: &LinkFrame,
     ) -> Result<Judgement, AllocError> {
         self.open();
         for _turn in 0..MOST_TURNS {
@@ -278,26 +268,27 @@ impl Candidates {
         mut candidate: Candidate,
         place: usize,
         now: u64,
-        frame: &Owed,
+        frame: &LinkFrame,
     ) -> Result<(), AllocError> {
         let may_send = candidate.may_send(frame);
         if !candidate.may_go_on() || !candidate.has_step(dialogue, place, now) {
             if may_send {
-                candidate.send(frame, now);
+                candidate.deliver(frame, now);
                 keep(&mut self.kept, candidate)?;
             }
             return Ok(());
         }
         self.spend(&candidate);
-        if may_send && let Some(child) = candidate.after_sending(dialogue, frame, now)? {
+        if may_send {
+            let child = candidate.after_delivery(dialogue, frame, now)?;
             keep(&mut self.kept, child)?;
         }
         self.open_moves(dialogue, candidate, place, now)
     }
 }
 
-/// An active layer 3 may explain a command that no run gives.
-fn excused(setup: &Setup, judgement: Judgement, frame: &Owed) -> Judgement {
+/// An active layer 3 may explain a command that no run has.
+fn excused(setup: &Setup, judgement: Judgement, frame: &LinkFrame) -> Judgement {
     match (judgement, frame.role, frame.control) {
         (
             Judgement::Refused(_),

@@ -1,8 +1,8 @@
-//! The run that is tried first: an end that takes each frame and each request in the order in which
-//! they were sent, and sends before any timer expires.
+//! The run that is tried first: an end that processes each frame and each request in the order in
+//! which they were sent, and sends before any timer expires.
 
 use crate::candidate::Candidate;
-use crate::owed::{Owed, Seen, frame_seen};
+use crate::link_frame::{LinkFrame, Seen, frame_seen};
 use crate::replay::{Dialogue, Move};
 use lapd_conform_player::{Happening, What};
 use std::alloc::AllocError;
@@ -10,28 +10,18 @@ use std::alloc::AllocError;
 /// The greatest number of moves for one happening.
 const MOST_MOVES: usize = 1_000;
 
-/// Whether this one run gives the dialogue. If it does, the table allows the dialogue. If it does
-/// not, another run may.
+/// Whether this one run has the dialogue. If so, the table allows the dialogue. If not, another run
+/// may have it.
 pub(crate) fn is_given(dialogue: &Dialogue<'_>, until: u64) -> Result<bool, AllocError> {
-    match Candidate::new(dialogue)? {
-        Some(mut candidate) => follow(dialogue, &mut candidate, until),
-        None => Ok(false),
-    }
-}
-
-fn follow(
-    dialogue: &Dialogue<'_>,
-    candidate: &mut Candidate,
-    until: u64,
-) -> Result<bool, AllocError> {
+    let mut candidate = Candidate::new(dialogue)?;
     for place in 0..dialogue.happenings.len() {
         if let Some(happening) = dialogue.happenings.get(place)
-            && !follow_one(dialogue, candidate, place, happening)?
+            && !follow_one(dialogue, &mut candidate, place, happening)?
         {
             return Ok(false);
         }
     }
-    settle(dialogue, candidate, dialogue.happenings.len(), until)
+    settle(dialogue, &mut candidate, dialogue.happenings.len(), until)
 }
 
 fn follow_one(
@@ -42,11 +32,11 @@ fn follow_one(
 ) -> Result<bool, AllocError> {
     match happening.what {
         What::Received => match frame_seen(&dialogue.setup, happening.octets.as_slice()) {
-            Seen::Beside => Ok(true),
+            Seen::Other => Ok(true),
             Seen::Wrong => Ok(false),
             Seen::Link(frame) => receive(dialogue, candidate, place, happening.at, &frame),
         },
-        What::Sent | What::Asked(_) => settle(dialogue, candidate, place, happening.at),
+        What::Sent | What::Requested(_) => settle(dialogue, candidate, place, happening.at),
     }
 }
 
@@ -78,14 +68,14 @@ fn receive(
     candidate: &mut Candidate,
     place: usize,
     now: u64,
-    frame: &Owed,
+    frame: &LinkFrame,
 ) -> Result<bool, AllocError> {
     if !settle(dialogue, candidate, place, now)? {
         return Ok(false);
     }
     for _turn in 0..MOST_MOVES {
         if candidate.may_send(frame) {
-            candidate.send(frame, now);
+            candidate.deliver(frame, now);
             return Ok(true);
         }
         if !candidate.may_go_on() || !go_on(dialogue, candidate, place, now)? {
@@ -122,8 +112,9 @@ fn chosen(candidate: &Candidate, dialogue: &Dialogue<'_>, before: usize, now: u6
 
 fn better(one: Option<Move>, other: Option<Move>) -> Option<Move> {
     match (one, other) {
-        (Some(Move::Ask(asked)), Some(Move::Hear(heard))) if asked < heard => one,
-        (_, Some(Move::Skip(_) | Move::HearRequest(_) | Move::Establish)) => one,
+        (Some(Move::Request(requested)), Some(Move::Receive(received))) if requested < received =>
+            one,
+        (_, Some(Move::Skip(_) | Move::ReceiveRequest(_) | Move::Establish)) => one,
         (_, Some(_)) => other,
         (_, None) => one,
     }

@@ -6,9 +6,9 @@ ghost use Rattle.lapd_conform.specs.Verdict.{verdict_of};
 /// The judgement on a dialogue.
 #[derive(Clone, Copy, Debug, PartialEq, Eq)]
 pub enum Judgement {
-    /// Some run of an allowed table gives the dialogue.
+    /// Some run of an allowed table has the dialogue.
     Allowed,
-    /// No run gives the dialogue up to the happening at this place. At the number of happenings
+    /// No run has the dialogue up to the happening at this place. At the number of happenings
     /// itself: a frame is overdue at the end.
     Refused(usize),
     /// More runs are possible than the judge follows.

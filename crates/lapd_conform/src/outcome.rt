@@ -3,7 +3,7 @@
 use crate::judgement::Verdict;
 use lapd_conform_player::{Happening, Lacks, Reason};
 
-/// Why the table decides nothing about a case that was played.
+/// Why the table decides nothing about a case.
 #[derive(Clone, Copy, Debug, PartialEq, Eq)]
 pub enum Doubt {
     /// None: the table allows all frames.
@@ -12,14 +12,14 @@ pub enum Doubt {
     TooManyRuns,
     /// Layer 3 of the stack may have made a request by itself.
     LayerThree,
-    /// The case failed, and passed or was inconclusive when it was played again.
+    /// The case failed, and passed or was inconclusive when it was repeated.
     NotRepeated,
     /// TEI management is judged by the purpose of the case, which needs a stack that is started
     /// anew, a line that is faster than T200, and a request that is confirmed.
     NotJudged,
 }
 
-/// The result of a case that was played.
+/// The result of a case that was executed.
 #[derive(Drop)]
 pub struct Played {
     /// The verdict.
@@ -33,7 +33,7 @@ pub struct Played {
     /// The place of the frame that the table does not allow, for a case that failed by the table;
     /// the number of all happenings for a frame that is overdue.
     pub refused: Option<usize>,
-    /// What happened.
+    /// The dialogue.
     pub happenings: Vec<Happening>,
 }
 
@@ -42,6 +42,6 @@ pub struct Played {
 pub enum Outcome {
     /// The case does not apply.
     NotApplicable(Lacks),
-    /// The case was played.
+    /// The case was executed.
     Played(Played),
 }

@@ -1,4 +1,4 @@
-//! Playing a case, and the verdict on it.
+//! Executing a case, and the verdict on it.
 
 ghost use Rattle.std.specs.Prelude.{◌≡◌, IfOk};
 ghost use Rattle.lapd_conform.specs.Outcomes.{HasReasons, IsReasoned, place_refused};
@@ -10,7 +10,7 @@ use crate::setup::Setup;
 use lapd_conform_player::{
     Case, Group, Lost, Performance, Preamble, Reason, Stack, Station, lack, perform,
 };
-use lapd_link::{Params, Sapi, Side, Tei};
+use lapd_link::{Params, Side, Tei};
 use std::alloc::Global;
 
 /// How late frames may be, in milliseconds, if TEI management is judged: no timer must expire
@@ -20,7 +20,7 @@ const MOST_SLACK: u64 = 220;
 /// How many messages the I queue of a candidate has room for.
 const ROOM: u16 = 256;
 
-/// What is kept between the cases of one stack.
+/// The state that is kept between the cases of one stack.
 #[derive(Clone, Copy)]
 pub struct Session {
     /// The TEI of the link in the last case that tested it, if it was reached there.
@@ -41,9 +41,9 @@ struct Judged {
     doubt: Doubt,
 }
 
-/// Plays a case. If it fails, it is played again: it fails only if it fails again.
+/// Executes a case. If it fails, it is repeated: it fails only if it fails again.
 ///
-/// A case that failed has the frame that is refused. One that passed reached its purpose, and no
+/// A case that failed has the frame that is refused. A case that passed reached its purpose, and no
 /// frame is refused.
 ///
 /// # Errors
@@ -116,7 +116,7 @@ fn kept_tei(
     }
 }
 
-/// The result of a case that was played once.
+/// The result of a case that was executed once.
 fn played(performance: Performance, judged: Judged) -> Played
     ensures { HasReasons result }
 {
@@ -139,7 +139,7 @@ fn place_refused(judgement: Judgement) -> Option<usize>
     }
 }
 
-/// The judgement on what happened: by the table for a link, by the purpose for TEI management.
+/// The judgement on a dialogue: by the table for a link, by the purpose for TEI management.
 fn judged_performance(
     alloc: Global,
     stack: &Stack,
@@ -177,22 +177,16 @@ fn doubted(doubt: Doubt) -> Judged {
     }
 }
 
-/// What the judge knows of the stack. `None` without a TEI, and if k or N200 is out of range.
+/// The setup of the judge. `None` without a TEI, and if k or N200 is out of range.
 fn setup_of(stack: &Stack, performance: &Performance) -> Option<Setup> {
     let tei = Tei::new(performance.tei?)?;
     let params = Params::new(stack.k, stack.n200, ROOM)?;
-    let t203 = if stack.has_t203 {
-        Some(u64::from(stack.t203))
-    } else {
-        None
-    };
     Some(Setup {
         side: stack.side,
-        sapi: Sapi::Call,
         tei,
         params,
         t200: u64::from(stack.t200),
-        t203,
+        t203: stack.idle_time(),
         slack: performance.slack,
         confirmed: stack.confirms,
         active: stack.is_active,
@@ -204,7 +198,7 @@ fn setup_of(stack: &Stack, performance: &Performance) -> Option<Setup> {
 /// started anew.
 fn judged_by_purpose(stack: &Stack, case: &Case<'_>, performance: &Performance) -> Judged {
     let is_slow = performance.slack > MOST_SLACK;
-    let is_lost = performance.has_asked && !stack.confirms;
+    let is_lost = performance.has_requested && !stack.confirms;
     let is_stale = !performance.is_fresh && matches!(case.name.group, Group::NetworkTei);
     if is_slow || is_lost || is_stale {
         return doubted(Doubt::NotJudged);

@@ -1,37 +1,30 @@
 //! Runs of a link: a list of moves, replayed on a new link.
 
-ghost use Rattle.std.specs.Prelude.{◌≡◌};
-
+use crate::own_link::OwnLink;
 use crate::setup::Setup;
-use lapd_conform_player::{Ask, Happening, What};
-use lapd_link::{
-    Control, Event, Frame, FrameFault, Link, Outs, Params, Recovery, Sapi, Seq, State, Window,
-};
+use lapd_conform_player::{Happening, Request, What};
+use lapd_link::{Control, Link, Recovery, Sapi, Seq, State, Timer, Window};
 use std::alloc::{AllocError, Global};
 
-/// The message of each request to send one.
-pub(crate) const MESSAGE: &[u8] = &[1, 2];
-
-/// A step of an end.
+/// A move of an end.
 #[derive(Clone, Copy)]
 pub(crate) enum Move {
-    /// It takes the frame of the tester at this place of the dialogue.
-    Hear(usize),
-    /// It takes the DM with F=0 at this place in state 4 as a request to establish (Q.921 5.5.4).
-    HearRequest(usize),
-    /// It takes the request at this place.
-    Ask(usize),
+    /// It processes the frame of the tester at this place of the dialogue.
+    Receive(usize),
+    /// It processes the DM with F=0 at this place in state 4 as a request to establish (Q.921
+    /// 5.5.4).
+    ReceiveRequest(usize),
+    /// It processes the request at this place.
+    Request(usize),
     /// The request at this place has no effect.
     Skip(usize),
-    /// T200 expires.
-    T200,
-    /// T203 expires.
-    T203,
+    /// A timer expires.
+    Expire(Timer),
     /// Its layer 3 establishes the link by itself.
     Establish,
 }
 
-/// What distinguishes an end from others after a run.
+/// The facts that distinguish an end from others after a run.
 #[derive(Clone, Copy, PartialEq, Eq)]
 pub(crate) struct Facts {
     pub state: State,
@@ -43,6 +36,18 @@ pub(crate) struct Facts {
 }
 
 impl Facts {
+    /// The facts of a link.
+    pub fn of(link: &Link) -> Facts {
+        Facts {
+            state: link.named_state(),
+            window: link.window(),
+            rc: link.rc(),
+            layer3_initiated: link.layer3_initiated(),
+            release_pending: link.release_pending(),
+            waiting: link.waiting(),
+        }
+    }
+
     /// V(R).
     pub fn vr(&self) -> Seq {
         self.window.vr()
@@ -66,157 +71,87 @@ pub(crate) struct Dialogue<'h> {
     pub happenings: &'h [Happening],
 }
 
-/// A link, and the outputs of its last step.
-#[derive(Drop)]
-pub(crate) struct Replay {
-    link: Link,
-    pub outs: Outs,
-}
+impl Dialogue<'_> {
+    /// The moment of the happening at this place, in milliseconds.
+    pub fn moment(&self, place: Option<usize>) -> Option<u64> {
+        let happening = self.happenings.get(place?)?;
+        Some(happening.at)
+    }
 
-impl Replay {
-    ghost use Rattle.lapd_link.specs.Link.{IsForLink};
-
-    /// A new link with this recovery. `None` if the setup has no address of a link.
-    fn new(dialogue: &Dialogue<'_>, recovery: Recovery) -> Result<Option<Replay>, AllocError> {
-        let setup = dialogue.setup;
-        let params = setup.params.with_recovery(recovery);
-        match new_link(dialogue.alloc, &setup, params)? {
-            Some(link) => Ok(Some(Replay {
-                link,
-                outs: Outs::new(),
-            })),
-            None => Ok(None),
+    /// The octets of the frame at this place.
+    pub fn octets(&self, place: usize) -> &[u8] {
+        match self.happenings.get(place) {
+            Some(happening) => happening.octets.as_slice(),
+            None => &[],
         }
     }
 
-    /// What distinguishes the link from others.
-    pub fn facts(&self) -> Facts {
-        Facts {
-            state: self.link.named_state(),
-            window: self.link.window(),
-            rc: self.link.rc(),
-            layer3_initiated: self.link.layer3_initiated(),
-            release_pending: self.link.release_pending(),
-            waiting: self.link.waiting(),
+    /// The request at this place.
+    fn request(&self, place: usize) -> Option<Request> {
+        let happening = self.happenings.get(place)?;
+        match happening.what {
+            What::Requested(request) => Some(request),
+            What::Sent | What::Received => None,
         }
     }
 
-    /// Takes a step.
-    pub fn step(&mut self, dialogue: &Dialogue<'_>, step: Move) -> Result<(), AllocError> {
+    /// The place of the first frame of the tester from `from` on and before `before`.
+    pub fn next_sent(&self, from: usize, before: usize) -> Option<usize> {
+        for place in from..before {
+            if let Some(happening) = self.happenings.get(place)
+                && happening.what == What::Sent
+            {
+                return Some(place);
+            }
+        }
+        None
+    }
+
+    /// The place of the first request from `from` on and before `before`.
+    pub fn next_request(&self, from: usize, before: usize) -> Option<usize> {
+        for place in from..before {
+            if self.request(place).is_some() {
+                return Some(place);
+            }
+        }
+        None
+    }
+
+    /// Makes a move of this link.
+    pub fn step(&self, link: &mut OwnLink, step: Move) -> Result<(), AllocError> {
         match step {
-            Move::Hear(place) => {
-                if let Some(happening) = dialogue.happenings.get(place) {
-                    self.hear(happening.octets.as_slice());
+            Move::Receive(place) => link.receive(self.octets(place)),
+            Move::Request(place) => {
+                if let Some(request) = self.request(place) {
+                    link.request(request)?;
                 }
             }
-            Move::Ask(place) => {
-                if let Some(happening) = dialogue.happenings.get(place) {
-                    self.ask(happening.what)?;
-                }
-            }
-            Move::HearRequest(_) | Move::Establish => self.handle(Event::Establish),
-            Move::Skip(_) => self.outs.clear(),
-            Move::T200 => self.handle(Event::T200),
-            Move::T203 => self.handle(Event::T203),
+            Move::ReceiveRequest(_) | Move::Establish => link.request(Request::Establish)?,
+            // Unit data does not change the link.
+            Move::Skip(_) => link.request(Request::Unit)?,
+            Move::Expire(timer) => link.expire(timer),
         }
         Ok(())
     }
 
-    /// Takes octets of the tester.
-    fn hear(&mut self, octets: &[u8]) {
-        self.outs.clear();
-        match lapd_frame::read(octets, self.link.side().other()) {
-            Ok(frame) => self.hear_frame(&frame),
-            Err(fault) => self.hear_fault(&fault),
-        }
-    }
-
-    fn hear_frame(&mut self, frame: &Frame<'_>) {
-        if self.link.is_for(&frame.address()) {
-            self.handle(Event::Heard(frame));
-        }
-    }
-
-    fn hear_fault(&mut self, fault: &FrameFault) {
-        if let Some(address) = &fault.address
-            && fault.kind.is_for_link()
-            && self.link.is_for(address)
-        {
-            self.handle(Event::Fault(fault.kind));
-        }
-    }
-
-    /// Takes a request. A request that the link refuses has no effect.
-    fn ask(&mut self, what: What) -> Result<(), AllocError> {
-        self.outs.clear();
-        match what {
-            What::Asked(Ask::Establish) => self.handle(Event::Establish),
-            What::Asked(Ask::Release) => self.handle(Event::Release),
-            What::Asked(Ask::Give) => return self.give(),
-            What::Asked(Ask::Unit) => {}
-            What::Asked(Ask::Busy(true)) => self.handle(Event::BusyOn),
-            What::Asked(Ask::Busy(false)) => self.handle(Event::BusyOff),
-            What::Sent | What::Received => {}
-        }
-        Ok(())
-    }
-
-    fn give(&mut self) -> Result<(), AllocError> {
-        let message = self.link.new_message(MESSAGE)?;
-        let _ = self.link.give_into(message, &mut self.outs);
-        Ok(())
-    }
-
-    /// Handles an event. If the link refuses it, there are no outputs.
-    fn handle(&mut self, event: Event)
-        requires { IsForLink self.old.link event }
-    {
-        let _ = self.link.handle_into(event, &mut self.outs);
-    }
-}
-
-/// Whether octets are a request to establish the link: DM with F=0.
-pub(crate) fn is_request_to_establish(setup: &Setup, octets: &[u8]) -> bool {
-    match lapd_frame::read(octets, setup.side.other()) {
-        Ok(frame) => matches!(frame.control(), Control::Dm { f: false })
-            && frame.address().sapi == setup.sapi
-            && frame.address().tei == setup.tei,
-        Err(_) => false,
-    }
-}
-
-/// A link with the address of the setup. `None` if that is no address of a link.
-fn new_link(alloc: Global, setup: &Setup, params: Params) -> Result<Option<Link>, AllocError> {
-    if setup.tei.value() >= 127 {
-        return Ok(None);
-    }
-    match setup.sapi {
-        Sapi::Call => Ok(Some(Link::new(alloc, setup.side, Sapi::Call, setup.tei, params)?)),
-        Sapi::Packet => Ok(Some(Link::new(alloc, setup.side, Sapi::Packet, setup.tei, params)?)),
-        Sapi::Management => Ok(None),
-    }
-}
-
-/// Replays moves on a new link. `None` if the setup has no address of a link.
-pub(crate) fn replayed(
-    dialogue: &Dialogue<'_>,
-    recovery: Recovery,
-    moves: &[Move],
-) -> Result<Option<Replay>, AllocError> {
-    match Replay::new(dialogue, recovery)? {
-        Some(mut run) => {
-            run.steps(dialogue, moves)?;
-            Ok(Some(run))
-        }
-        None => Ok(None),
-    }
-}
-
-impl Replay {
-    fn steps(&mut self, dialogue: &Dialogue<'_>, moves: &[Move]) -> Result<(), AllocError> {
+    /// Replays moves on a new link with this recovery.
+    pub fn replay(&self, recovery: Recovery, moves: &[Move]) -> Result<OwnLink, AllocError> {
+        let params = self.setup.params.with_recovery(recovery);
+        let tei = self.setup.tei.value();
+        let mut link = OwnLink::new(self.alloc, self.setup.side, tei, params)?;
         for step in moves {
-            self.step(dialogue, *step)?;
+            self.step(&mut link, *step)?;
         }
-        Ok(())
+        Ok(link)
+    }
+
+    /// Whether the frame at this place is a request to establish the link: DM with F=0.
+    pub fn is_request_to_establish(&self, place: usize) -> bool {
+        match lapd_frame::read(self.octets(place), self.setup.side.other()) {
+            Ok(frame) => matches!(frame.control(), Control::Dm { f: false })
+                && frame.address().sapi == Sapi::Call
+                && frame.address().tei == self.setup.tei,
+            Err(_) => false,
+        }
     }
 }

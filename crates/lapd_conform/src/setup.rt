@@ -1,15 +1,13 @@
-//! What the judge knows of the stack under test.
+//! The setup of the judge.
 
-use lapd_link::{Params, Sapi, Side, Tei};
+use lapd_link::{Params, Side, Tei};
 
-/// What the judge knows of the stack under test, and the tolerances. Times are in milliseconds.
+/// The stack under test, as the judge knows it, and the tolerances. Times are in milliseconds.
 #[derive(Clone, Copy)]
 pub struct Setup {
     /// The side of the stack.
     pub side: Side,
-    /// The SAPI of the link: not management.
-    pub sapi: Sapi,
-    /// The TEI of the link: not the group TEI.
+    /// The TEI of the link, of SAPI 0: not the group TEI.
     pub tei: Tei,
     /// The window and N200.
     pub params: Params,
@@ -32,7 +30,7 @@ impl Setup {
         self.t200.saturating_mul(3).saturating_add(self.slack)
     }
 
-    /// How long it takes at most until the end takes a frame that was sent, or a confirmed request:
+    /// How long it takes at most until the end processes a frame that was sent, or a confirmed request:
     /// the slack, and 300 ms.
     pub fn reach(&self) -> u64 {
         self.slack.saturating_add(300)

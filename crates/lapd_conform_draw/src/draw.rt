@@ -30,7 +30,7 @@ const PREAMBLES: [Preamble; 10] = [
     Preamble::LineEstablishes,
 ];
 
-/// Octets that do not form a valid frame (Q.921 2.9 and 5.8.5), each behind the address.
+/// Octets that do not form a valid frame (Q.921 2.9 and 5.8.5), each after the address.
 const WRONG: [&str; 8] = [
     "C 3f", "R 7f", "C 73", "R 010000", "C 0d00", "C 01", "R 0000aa", "C 0f",
 ];
@@ -55,8 +55,8 @@ struct Drawer<'a> {
     has_paused: bool,
 }
 
-/// Draws the round with this number, from 1, and so many stimuli. For a seed, a number and a stack
-/// it is always the same.
+/// Draws the round with this number, from 1, and this number of stimuli. It depends only on the
+/// seed, the number and the stack.
 ///
 /// # Errors
 ///
@@ -90,7 +90,7 @@ pub fn draw_round(
 }
 
 impl Drawer<'_> {
-    /// Draws so many stimuli.
+    /// Draws this number of stimuli.
     fn stimuli(&mut self, count: usize) -> Result<Vec<Stimulus>, AllocError>
         ensures { IfOk result (λ stimuli. length stimuli.items ≡ count) }
     {
@@ -135,14 +135,14 @@ impl Drawer<'_> {
         match preamble {
             Preamble::AwaitingEstablishment if self.stack.requests.establish => self
                 .end
-                .ask(Request::Establish)?,
+                .request(Request::Establish)?,
             Preamble::AwaitingEstablishment | Preamble::LineEstablishes => {
                 self.establish()?;
                 self.take(response(Kind::DisconnectedMode, false))?;
             }
             Preamble::AwaitingRelease => {
                 self.establish()?;
-                self.end.ask(Request::Release)?;
+                self.end.request(Request::Release)?;
             }
             Preamble::Established => self.establish()?,
             Preamble::TimerRecovery => {
@@ -153,7 +153,7 @@ impl Drawer<'_> {
             }
             Preamble::OneOutstanding => {
                 self.establish()?;
-                self.end.ask(Request::Give)?;
+                self.end.request(Request::Give)?;
                 self.expire_t200();
             }
             _ => {}
@@ -176,7 +176,7 @@ impl Drawer<'_> {
         self.has_paused = matches!(stimulus, Stimulus::Pause(_));
         match stimulus {
             Stimulus::Send(_) | Stimulus::SendOctets(_) => self.send(stimulus),
-            Stimulus::Ask(request, count) => self.ask(request, count),
+            Stimulus::Request(request, count) => self.request_often(request, count),
             Stimulus::Pause(time) => {
                 self.wait(u64::from(time));
                 Ok(())
@@ -188,14 +188,14 @@ impl Drawer<'_> {
         let text = format!(in self.alloc; "{stimulus}")?;
         if let Ok(line) = read_line(text.as_bytes()) {
             let octets = sent_octets(self.alloc, self.stack, TEI, &line)?;
-            self.end.hear(octets.as_slice());
+            self.end.receive(octets.as_slice());
         }
         Ok(())
     }
 
-    fn ask(&mut self, request: Request, count: u16) -> Result<(), AllocError> {
+    fn request_often(&mut self, request: Request, count: u16) -> Result<(), AllocError> {
         for _turn in 0..count {
-            self.end.ask(request)?;
+            self.end.request(request)?;
         }
         Ok(())
     }
@@ -420,7 +420,7 @@ impl Drawer<'_> {
         let more = (self.below(3) % 3 + 1) as u16;
         let count = u16::from(self.stack.k.min(MOST_WINDOW)).saturating_add(more);
         if self.stack.requests.give {
-            Stimulus::Ask(Request::Give, count)
+            Stimulus::Request(Request::Give, count)
         } else {
             self.supervisory(Kind::ReceiveReady)
         }
@@ -440,7 +440,7 @@ impl Drawer<'_> {
     /// This request; a poll if the upper tester does not take it.
     fn request(&mut self, request: Request) -> Stimulus {
         if self.stack.requests.has(request) {
-            Stimulus::Ask(request, 1)
+            Stimulus::Request(request, 1)
         } else {
             self.supervisory(Kind::ReceiveReady)
         }

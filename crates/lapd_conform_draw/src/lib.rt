@@ -1,10 +1,10 @@
 //! Drawn stimuli for the conformance tester.
 //!
 //! [`draw_round`] draws a [`Round`]: a state, and steps of a case that follow it ([`Stimulus`]).
-//! [`Round::text`] is the text of a case, which the player plays and the judge judges as any other
-//! ([`play_round`]). The numbers of its frames are near those of an end that does with the stimuli
-//! what our own link does ([`Expected`]). A round depends on its seed, its number and the
-//! parameters of the stack alone, so it can be played again.
+//! [`Round::text`] is the text of a case, which is executed and judged as any other
+//! ([`play_round`]). The numbers of its frames are near those of our own link, which processes the
+//! stimuli in the place of the stack ([`Expected`]). A round depends only on its seed, its number
+//! and the parameters of the stack, so it can be repeated.
 //!
 //! [`shrink`] leaves out stimuli of a round that fails, as long as it fails.
 #![tactic(auto)]

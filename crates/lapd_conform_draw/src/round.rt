@@ -28,7 +28,7 @@ pub struct Round {
     pub number: u64,
     /// The state with which it begins.
     pub preamble: Preamble,
-    /// What is done then, in order.
+    /// The stimuli after it, in order.
     pub stimuli: Vec<Stimulus>,
     /// Whether it ends with a wait for answers that are missing.
     pub waits: bool,
@@ -124,8 +124,8 @@ impl Round {
     /// Whether it makes a request that needs this one of the upper tester.
     fn makes(&self, request: Request) -> bool {
         for stimulus in &self.stimuli {
-            if let Stimulus::Ask(asked, _) = stimulus
-                && needed(*asked) == request_word(request)
+            if let Stimulus::Request(made, _) = stimulus
+                && needed(*made) == request_word(request)
             {
                 return true;
             }
@@ -146,8 +146,8 @@ fn left(
 {
     let mut stimuli = Vec::new(alloc);
     stimuli.extend_from_slice(all.get(..place).unwrap_or(all))?;
-    let behind = place.saturating_add(count);
-    stimuli.extend_from_slice(all.get(behind..).unwrap_or(&[]))?;
+    let after = place.saturating_add(count);
+    stimuli.extend_from_slice(all.get(after..).unwrap_or(&[]))?;
     Ok(stimuli)
 }
 

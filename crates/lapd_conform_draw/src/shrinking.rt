@@ -11,20 +11,20 @@ use std::alloc::Global;
 /// The greatest number of passes over the stimuli.
 const MOST_PASSES: usize = 64;
 
-/// Where the progress is reported.
+/// Reports the progress.
 pub trait Progress {
-    /// A round is shrunk: the number of the try, and how many stimuli it has.
+    /// A round is shrunk: the number of the try, and its number of stimuli.
     fn shrink(&mut self, number: u64, stimuli: usize);
 }
 
-/// The rounds that are played to shrink one that failed.
+/// The rounds that are executed to shrink one that failed.
 #[derive(Drop)]
 pub struct Tries {
     stack: Stack,
     session: Session,
     /// The result of the last round that failed.
     played: Played,
-    /// How many rounds were played.
+    /// The number of rounds that were executed.
     number: u64,
 }
 
@@ -39,7 +39,7 @@ impl Tries {
         }
     }
 
-    /// What is kept between the cases of the stack.
+    /// The state that is kept between the cases of the stack.
     pub fn session(&self) -> Session {
         self.session
     }
@@ -79,8 +79,8 @@ impl Tries {
     }
 }
 
-/// A round that fails as the one that is passed, without stimuli that it does not need: none alone
-/// can be left out.
+/// A round that fails as `round` does, without the stimuli that it does not need: no single one can
+/// be left out.
 ///
 /// # Errors
 ///
@@ -125,7 +125,7 @@ fn without_wait<S: Station, P: Progress>(
     }
 }
 
-/// Leaves out so many stimuli at a time if the round still fails, the last ones first.
+/// Leaves out this number of stimuli at a time if the round still fails, the last ones first.
 fn pass_over<S: Station, P: Progress>(
     alloc: Global,
     station: &mut S,

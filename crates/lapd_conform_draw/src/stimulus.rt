@@ -27,9 +27,9 @@ pub enum Stimulus {
     Send(DrawnFrame),
     /// The tester sends octets that do not form a valid frame: the role and these digits.
     SendOctets(&'static str),
-    /// The upper tester makes this request, so often.
-    Ask(Request, u16),
-    /// The tester waits for so many milliseconds, at most 100,000.
+    /// The upper tester makes this request, this number of times.
+    Request(Request, u16),
+    /// The tester waits for this number of milliseconds, at most 100,000.
     Pause(u32),
 }
 
@@ -82,8 +82,8 @@ impl fmt::Display for Stimulus {
         match self {
             Stimulus::Send(frame) => write!(f, "send {frame}"),
             Stimulus::SendOctets(octets) => write!(f, "send octets {octets}"),
-            Stimulus::Ask(request, 1) => write!(f, "do {}", request_word(*request)),
-            Stimulus::Ask(request, count) => write!(f, "do {} {count}", request_word(*request)),
+            Stimulus::Request(request, 1) => write!(f, "do {}", request_word(*request)),
+            Stimulus::Request(request, count) => write!(f, "do {} {count}", request_word(*request)),
             Stimulus::Pause(time) => write!(f, "pause {time} ms"),
         }
     }

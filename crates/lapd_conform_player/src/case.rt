@@ -26,14 +26,14 @@ pub fn first_case<'s>(lines: &'s [NumberedLine<'s>]) -> Option<(Case<'s>, &'s [N
         }
         count = count.saturating_add(1);
     }
-    let (own, behind) = lines.split_at_checked(count)?;
+    let (own, others) = lines.split_at_checked(count)?;
     Some((
         Case {
             name,
             title: first.line.text,
             lines: own,
         },
-        behind,
+        others,
     ))
 }
 

@@ -1,196 +1,123 @@
 //! Frames of the stack, compared with what is expected.
 
-use crate::spelled::{MANAGEMENT, are_digits_of};
+use crate::spelled::{are_digits_of, control_of, modulo_128};
 use crate::values::Values;
-use lapd_conform_suite::{Fields, Information, Kind, Number, Pattern, TeiKind};
-use lapd_frame::{Control, Frame, N201, Role};
+use lapd_conform_suite::{Fields, Information, Kind, Number, Pattern, TeiKind, Value};
+use lapd_frame::{Control, Frame, N201, Number as SequenceNumber, Role, Sapi};
+use lapd_tei::TeiMessage;
 
-/// A frame of the stack, in the terms of a suite.
-#[derive(Clone, Copy)]
-pub(crate) struct Received<'f> {
-    pub role: Role,
-    pub kind: Kind,
-    pub sapi: u8,
-    pub tei: u8,
-    /// N(S), 0 without one.
-    pub send_number: u8,
-    /// N(R), 0 without one.
-    pub receive_number: u8,
-    /// P or F.
-    pub bit: bool,
-    info: &'f [u8],
+/// Reads a frame of the stack. `None` if the octets do not form a valid frame.
+pub(crate) fn frame_of_stack<'f>(values: &Values, octets: &'f [u8]) -> Option<Frame<'f>> {
+    lapd_frame::read(octets, values.stack.side).ok()
 }
 
-/// A message of TEI management.
-#[derive(Clone, Copy)]
-pub(crate) struct Management {
-    pub kind: TeiKind,
-    pub reference: u16,
-    pub action_indicator: u8,
-}
-
-impl<'f> Received<'f> {
-    /// Reads a frame of the stack. `None` if the octets do not form a valid frame.
-    pub fn read(values: &Values, octets: &'f [u8]) -> Option<Received<'f>> {
-        match lapd_frame::read(octets, values.stack.side) {
-            Ok(frame) => Some(received_frame(&frame)),
-            Err(_) => None,
-        }
-    }
-
-    /// Its message of TEI management, if it is a UI command that has one.
-    pub fn management(&self) -> Option<Management> {
-        if self.sapi != MANAGEMENT || self.kind != Kind::UnnumberedInformation {
-            return None;
-        }
-        match self.info {
-            [0x0f, high, low, kind, last] => Some(Management {
-                kind: tei_kind(*kind)?,
-                reference: u16::from(*high) * 256 + u16::from(*low),
-                action_indicator: *last / 2,
-            }),
-            _ => None,
-        }
-    }
-
-    /// Whether it is a poll: RR or RNR command with P=1.
-    pub fn is_poll(&self) -> bool {
-        self.role == Role::Command
-            && self.bit
-            && matches!(self.kind, Kind::ReceiveReady | Kind::ReceiveNotReady)
-    }
-
-    /// Whether it has this kind and role.
-    pub fn is(&self, role: Role, kind: Kind) -> bool {
-        self.role == role && self.kind == kind
-    }
-}
-
-fn received_frame<'f>(frame: &Frame<'f>) -> Received<'f> {
-    let address = frame.address();
-    let control = frame.control();
-    Received {
-        role: address.role,
-        kind: kind_of(control),
-        sapi: address.sapi.value(),
-        tei: address.tei.value(),
-        send_number: send_number(control),
-        receive_number: receive_number(control),
-        bit: control.poll_final(),
-        info: frame.info(),
-    }
-}
-
-fn kind_of(control: Control) -> Kind {
-    match control {
-        Control::I { .. } => Kind::Information,
-        Control::Rr { .. } => Kind::ReceiveReady,
-        Control::Rnr { .. } => Kind::ReceiveNotReady,
-        Control::Rej { .. } => Kind::Reject,
-        Control::Sabme { .. } => Kind::Sabme,
-        Control::Dm { .. } => Kind::DisconnectedMode,
-        Control::Ui { .. } => Kind::UnnumberedInformation,
-        Control::Disc { .. } => Kind::Disconnect,
-        Control::Ua { .. } => Kind::UnnumberedAcknowledgement,
-        Control::Frmr { .. } => Kind::FrameReject,
-        Control::Xid { .. } => Kind::ExchangeIdentification,
-    }
-}
-
-fn send_number(control: Control) -> u8 {
-    match control {
-        Control::I { ns, .. } => ns.value(),
-        _ => 0,
-    }
-}
-
-fn receive_number(control: Control) -> u8 {
-    match control {
-        Control::I { nr, .. }
-        | Control::Rr { nr, .. }
-        | Control::Rnr { nr, .. }
-        | Control::Rej { nr, .. } => nr.value(),
-        _ => 0,
-    }
-}
-
-fn tei_kind(number: u8) -> Option<TeiKind> {
-    match number {
-        1 => Some(TeiKind::Request),
-        2 => Some(TeiKind::Assigned),
-        3 => Some(TeiKind::Denied),
-        4 => Some(TeiKind::CheckRequest),
-        5 => Some(TeiKind::CheckResponse),
-        6 => Some(TeiKind::Remove),
-        7 => Some(TeiKind::Verify),
+/// The message of TEI management in a frame, if it is a UI command that has one.
+pub(crate) fn management(frame: &Frame<'_>) -> Option<TeiMessage> {
+    match (frame.address().sapi, frame.control()) {
+        (Sapi::Management, Control::Ui { .. }) => TeiMessage::read(frame.info()).ok(),
         _ => None,
     }
 }
 
-/// Whether a frame of the stack is one that is expected. Values that are to be kept are kept only
-/// then.
-pub(crate) fn is_expected(
-    values: &mut Values,
+/// Whether it is a poll: RR or RNR command with P=1.
+pub(crate) fn is_poll(frame: &Frame<'_>) -> bool {
+    frame.address().role == Role::Command
+        && matches!(
+            frame.control(),
+            Control::Rr { pf: true, .. } | Control::Rnr { pf: true, .. }
+        )
+}
+
+/// Whether a control field is of this kind.
+pub(crate) fn is_kind(control: Control, kind: Kind) -> bool {
+    let (ns, nr) = numbers(control);
+    control == control_of(kind, ns, nr, control.poll_final())
+}
+
+/// N(S) and N(R), 0 without one.
+fn numbers(control: Control) -> (SequenceNumber, SequenceNumber) {
+    let zero = modulo_128(0);
+    match control {
+        Control::I { ns, nr, .. } => (ns, nr),
+        Control::Rr { nr, .. } | Control::Rnr { nr, .. } | Control::Rej { nr, .. } => (zero, nr),
+        _ => (zero, zero),
+    }
+}
+
+/// The values after a frame of the stack that is expected, with those that it is to keep. `None` if
+/// it is not expected.
+pub(crate) fn values_after(
+    values: &Values,
     pattern: Pattern,
     digits: &[u8],
     octets: &[u8],
-) -> bool {
-    let Some(frame) = Received::read(values, octets) else {
-        return false;
-    };
-    let mut trial = *values;
-    let fits = fits(&mut trial, pattern, digits, &frame);
-    if fits {
-        *values = trial;
+) -> Option<Values> {
+    let frame = frame_of_stack(values, octets)?;
+    let mut after = *values;
+    if fits(&mut after, pattern, digits, &frame) {
+        Some(after)
+    } else {
+        None
     }
-    fits
 }
 
-fn fits(values: &mut Values, pattern: Pattern, digits: &[u8], frame: &Received<'_>) -> bool {
+fn fits(values: &mut Values, pattern: Pattern, digits: &[u8], frame: &Frame<'_>) -> bool {
+    let role = frame.address().role;
     match pattern {
-        Pattern::Command(kind, fields) => frame.is(Role::Command, kind)
-            && fits_fields(values, &fields, digits, frame),
-        Pattern::Response(kind, fields) => frame.is(Role::Answer, kind)
-            && fits_fields(values, &fields, digits, frame),
-        Pattern::Either(kind, fields) => frame.kind == kind
-            && fits_fields(values, &fields, digits, frame),
+        Pattern::Command(kind, fields) => {
+            role == Role::Command && fits_fields(values, kind, &fields, digits, frame)
+        }
+        Pattern::Response(kind, fields) => {
+            role == Role::Answer && fits_fields(values, kind, &fields, digits, frame)
+        }
+        Pattern::Either(kind, fields) => fits_fields(values, kind, &fields, digits, frame),
         Pattern::Acknowledgement(number) => acknowledges(values, number, frame),
         Pattern::Tei(kind, fields) => fits_management(values, kind, &fields, frame),
         Pattern::Nothing | Pattern::Octets(_) | Pattern::Raw => false,
     }
 }
 
-/// Whether it is RR with F=0, or an I frame, of the link and with this N(R).
-fn acknowledges(values: &Values, number: Number, frame: &Received<'_>) -> bool {
-    let is_kind = match frame.kind {
-        Kind::ReceiveReady => true,
-        Kind::Information => frame.role == Role::Command,
+/// Whether it is RR with F=0, or an I frame with P=0, of the link and with this N(R).
+fn acknowledges(values: &Values, number: Number, frame: &Frame<'_>) -> bool {
+    match frame.control() {
+        Control::Rr { nr, pf: false } | Control::I { nr, p: false, .. } => {
+            is_link(values, frame) && nr == modulo_128(values.number(number))
+        }
         _ => false,
-    };
-    is_kind
-        && !frame.bit
-        && frame.sapi == 0
-        && frame.tei == values.tei
-        && u16::from(frame.receive_number) == values.number(number) % 128
+    }
 }
 
-fn fits_fields(values: &mut Values, fields: &Fields, digits: &[u8], frame: &Received<'_>) -> bool {
+/// Whether the SAPI and the TEI are those of the link.
+pub(crate) fn is_link(values: &Values, frame: &Frame<'_>) -> bool {
+    let address = frame.address();
+    address.sapi == Sapi::Call && address.tei.value() == values.tei
+}
+
+fn fits_fields(
+    values: &mut Values,
+    kind: Kind,
+    fields: &Fields,
+    digits: &[u8],
+    frame: &Frame<'_>,
+) -> bool {
+    let (address, control) = (frame.address(), frame.control());
+    let (ns, nr) = numbers(control);
     let tei = u16::from(values.tei);
-    is_link(frame, fields, tei)
-        && values.fits(fields.sapi, u16::from(frame.sapi), 64)
-        && values.fits(fields.tei, u16::from(frame.tei), 128)
-        && values.fits(fields.send_number, u16::from(frame.send_number), 128)
-        && values.fits(fields.receive_number, u16::from(frame.receive_number), 128)
-        && values.fits(fields.bit, u16::from(frame.bit), 2)
-        && fits_information(fields.information, digits, frame.info)
+    is_kind(control, kind)
+        && fits_or(values, fields.sapi, 0, u16::from(address.sapi.value()), 64)
+        && fits_or(values, fields.tei, tei, u16::from(address.tei.value()), 128)
+        && values.fits(fields.send_number, u16::from(ns.value()), 128)
+        && values.fits(fields.receive_number, u16::from(nr.value()), 128)
+        && values.fits(fields.bit, u16::from(control.poll_final()), 2)
+        && fits_information(fields.information, digits, frame.info())
 }
 
-/// Whether the SAPI and the TEI are those of the link, if they are left out.
-fn is_link(frame: &Received<'_>, fields: &Fields, tei: u16) -> bool {
-    use lapd_conform_suite::Value;
-    let is_sapi = !matches!(fields.sapi, Value::LeftOut) || frame.sapi == 0;
-    let is_tei = !matches!(fields.tei, Value::LeftOut) || u16::from(frame.tei) == tei;
-    is_sapi && is_tei
+/// Whether a field has the value that is expected; this one if the field is left out.
+fn fits_or(values: &mut Values, value: Value, left_out: u16, seen: u16, modulus: u16) -> bool {
+    match value {
+        Value::LeftOut => seen == left_out,
+        _ => values.fits(value, seen, modulus),
+    }
 }
 
 fn fits_information(information: Information, digits: &[u8], octets: &[u8]) -> bool {
@@ -202,17 +129,11 @@ fn fits_information(information: Information, digits: &[u8], octets: &[u8]) -> b
     }
 }
 
-fn fits_management(
-    values: &mut Values,
-    kind: TeiKind,
-    fields: &Fields,
-    frame: &Received<'_>,
-) -> bool {
-    let Some(message) = frame.management() else {
-        return false;
-    };
-    let indicator = u16::from(message.action_indicator);
-    message.kind == kind
-        && values.fits(fields.reference, message.reference, 0)
-        && values.fits(fields.action_indicator, indicator, 128)
+fn fits_management(values: &mut Values, kind: TeiKind, fields: &Fields, frame: &Frame<'_>) -> bool {
+    match management(frame) {
+        Some(message) => message.kind == kind
+            && values.fits(fields.reference, message.ri, 0)
+            && values.fits(fields.action_indicator, u16::from(message.ai), 128),
+        None => false,
+    }
 }

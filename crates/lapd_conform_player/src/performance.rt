@@ -1,4 +1,4 @@
-//! Playing the lines of a case.
+//! Executing a case.
 
 use crate::case::Case;
 use crate::happening::Happening;
@@ -11,14 +11,14 @@ use crate::values::Values;
 use lapd_conform_suite::{Preamble, Step};
 use std::alloc::Global;
 
-/// What happened when a case was played.
+/// The dialogue of a case that was executed, and whether its purpose was reached.
 #[derive(Drop)]
 pub struct Performance {
     /// Why the purpose was not reached. `None` if it was.
     pub reason: Option<Reason>,
     /// The number of the line in the suite at which the case ended.
     pub line: u64,
-    /// What happened, from a moment at which the link was in state 4 and nothing was in transit.
+    /// The happenings, from a moment at which the link was in state 4 and nothing was in transit.
     pub happenings: Vec<Happening>,
     /// The moment at which the case ended, in milliseconds.
     pub until: u64,
@@ -29,10 +29,10 @@ pub struct Performance {
     /// Whether the stack was started anew for the case.
     pub is_fresh: bool,
     /// Whether a request was made after the last frame.
-    pub has_asked: bool,
+    pub has_requested: bool,
 }
 
-/// The first thing that the stack lacks for a case.
+/// The first need of a case that the stack does not meet.
 pub fn lack(stack: &Stack, case: &Case<'_>) -> Option<Lacks> {
     for line in case.lines {
         match line.line.step {
@@ -45,7 +45,7 @@ pub fn lack(stack: &Stack, case: &Case<'_>) -> Option<Lacks> {
     None
 }
 
-/// Plays the lines of a case. `tei` is the TEI that the network side assigned in a case before.
+/// Executes the lines of a case. `tei` is the TEI that the network side assigned in an earlier case.
 ///
 /// # Errors
 ///
@@ -62,29 +62,27 @@ pub fn perform<S: Station>(
     let values = Values::new(*stack, stack.tei.or(kept).unwrap_or(GROUP));
     let mut player = Player::new(alloc, values, !case.tests_link(), is_fresh, case.lines);
     let reason = match run(station, &mut player) {
-        Ok(()) if player.is_late => Some(Reason::Late),
+        Ok(()) if player.timing.is_late => Some(Reason::Late),
         Ok(()) => None,
         Err(Stop::Missed(reason)) => Some(reason),
         Err(Stop::Lost(lost)) => return Err(lost),
     };
     Ok(Performance {
         reason,
-        line: player.line,
+        line: player.lines.number,
         until: station.now(),
         slack: player.slack(station),
-        tei: player.tei(),
+        tei: player.values.known_tei(),
         is_fresh,
-        has_asked: player.has_asked,
-        happenings: player.happenings,
+        has_requested: player.timing.has_requested,
+        happenings: player.record.happenings,
     })
 }
 
-/// Plays the lines. A stack that was not started anew first releases the link, if it has one.
+/// Executes the lines. A stack that was not started anew first releases the link, if it has one.
 fn run<S: Station>(station: &mut S, player: &mut Player<'_>) -> Result<(), Stop> {
-    if !player.is_fresh && (!player.tests_tei || player.tei().is_some()) {
-        player.reach(station, Preamble::TeiAssigned)?;
-        player.calm(station)?;
-        player.forget();
+    if !player.is_fresh && (!player.tests_tei || player.values.known_tei().is_some()) {
+        player.renew(station)?;
     }
     player.run(station)
 }

@@ -17,7 +17,7 @@ pub enum Reason {
     Late,
     /// The preamble did not lead the stack into this state.
     NotReached(Preamble),
-    /// The stack sent more frames than the player looks at.
+    /// The stack sent more frames than the player examines.
     TooManyFrames,
 }
 
@@ -26,7 +26,7 @@ pub enum Reason {
 pub enum Lacks {
     /// The case is for the other end.
     End,
-    /// The stack lacks this.
+    /// The stack does not meet this need.
     Need(Need),
     /// This state cannot be reached without an upper tester.
     State(Preamble),

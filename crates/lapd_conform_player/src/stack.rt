@@ -127,7 +127,7 @@ impl Stack {
         }
     }
 
-    /// Whether it has what a case needs.
+    /// Whether it meets a need of a case.
     pub fn has(&self, need: Need) -> bool {
         match need {
             Need::Give => self.requests.give,
@@ -153,6 +153,15 @@ impl Stack {
             Preamble::AwaitingRelease => self.requests.release,
             Preamble::OneOutstanding => self.requests.give,
             _ => true,
+        }
+    }
+
+    /// The duration of T203 in milliseconds, if the stack has it.
+    pub fn idle_time(&self) -> Option<u64> {
+        if self.has_t203 {
+            Some(u64::from(self.t203))
+        } else {
+            None
         }
     }
 

@@ -1,8 +1,9 @@
 //! The values of numbers and times in a case.
 
+use crate::spelled::GROUP;
 use crate::stack::Stack;
 use lapd_conform_suite::{Base, Choice, Number, Span, TimeUnit, Value};
-use lapd_frame::N201;
+use lapd_frame::{Address, N201, Role, Sapi, Side, Tei};
 use lapd_timers::Timer;
 
 /// The values that the names of a case have.
@@ -29,6 +30,31 @@ impl Values {
             q: 0,
             r: 0,
         }
+    }
+
+    /// The TEI of the link, if it is known.
+    pub fn known_tei(&self) -> Option<u8> {
+        if self.tei == GROUP {
+            None
+        } else {
+            Some(self.tei)
+        }
+    }
+
+    /// The side of the tester.
+    pub fn tester(&self) -> Side {
+        self.stack.side.other()
+    }
+
+    /// An address as the tester sends it (Q.921 3.3). The SAPI may be any number, modulo 64.
+    pub fn address(&self, role: Role, sapi: u8, tei: u8) -> [u8; 2] {
+        let address = Address {
+            sapi: Sapi::Call,
+            tei: Tei::new(tei % 128).unwrap(),
+            role,
+        };
+        let [first, second] = address.write(self.tester());
+        [first | (sapi % 64 * 4), second]
     }
 
     /// The value of a number.

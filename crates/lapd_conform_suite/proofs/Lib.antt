@@ -1,4 +1,3 @@
 mod Joined
-mod LinesFrom
 mod Rows
 mod TextLines

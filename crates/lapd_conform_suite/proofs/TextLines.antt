@@ -4,10 +4,10 @@ use Rattle.std.proofs.lemmas.Bool.{ne_eqb}
 use Rattle.lapd_cli_script.specs.Script.{lines_of}
 use Rattle.lapd_cli_script.specs.WalkState.{HasNoFeed}
 
-pub line_behind : (line rest : List ℕ) → HasNoFeed line
+pub one_line_and_rest : (line rest : List ℕ) → HasNoFeed line
     → lines_of (line ++ 10 ∷ rest) ≡ line ∷ lines_of rest
-line_behind [] rest h = refl
-line_behind (octet ∷ line) rest h = rw (ne_eqb _ _ h.0, line_behind line rest h.1) refl
+one_line_and_rest [] rest h = refl
+one_line_and_rest (octet ∷ line) rest h = rw (ne_eqb _ _ h.0, one_line_and_rest line rest h.1) refl
 
 one_line : (octet : ℕ) (line : List ℕ) → HasNoFeed (octet ∷ line)
     → lines_of (octet ∷ line) ≡ (octet ∷ line) ∷ []

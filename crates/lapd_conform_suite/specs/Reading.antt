@@ -1,11 +1,11 @@
--- How words are read: the value, or the wrong word and what is wanted in its place.
+-- How words are read: the value, or the wrong word and what is expected in its place.
 use Rattle.std.specs.Prelude.{◌≡◌, ℕ, Bool, List, [], ◌∷◌, length, take, drop, if◌then◌else◌, Option, Some, None, option_map, find, Result, Ok, Err, ⊤}
 use Rattle.std.specs.Str.{bytes_eq}
 use Rattle.lapd_conform_suite.specs.declared.fault.Fault.{Fault}
 use Rattle.lapd_conform_suite.specs.declared.fault.Wanted.{Wanted}
 use Rattle.lapd_conform_suite.specs.declared.fault.Wanted.TheVariants.{EndOfLine}
 
--- the wrong word, and what is wanted
+-- the wrong word, and what is expected
 abbrev pub Wrong : Type 0
 Wrong = List ℕ × Wanted
 

@@ -1,4 +1,4 @@
--- Whole suites: their lines, and the order in which lines may stand.
+-- Whole suites: their lines, and the order of lines.
 use Rattle.std.specs.Prelude.{◌≡◌, ℕ, ◌+◌, ◌*◌, nat_lt, true, false, List, [], ◌∷◌, ◌++◌, map, if◌then◌else◌, Result, Ok, Err, ⊤}
 use Rattle.lapd_cli_script.specs.Script.{is_passed_over, lines_of}
 use Rattle.lapd_conform_suite.specs.declared.fault.SuiteFault.{SuiteFault}
@@ -145,13 +145,13 @@ abbrev pub numbered_words : NumberedLine → ℕ × LineWords
 numbered_words l = (l.number, (l.line.step, l.line.text.now))
 
 -- the lines that were read, in front of those that are left
-abbrev pub read_behind : List NumberedLine → Result (List (ℕ × LineWords)) WrongLine
+abbrev pub after_lines : List NumberedLine → Result (List (ℕ × LineWords)) WrongLine
     → Result (List (ℕ × LineWords)) WrongLine
-read_behind lines rest = prepended (map numbered_words lines) rest
+after_lines lines rest = prepended (map numbered_words lines) rest
 
--- the suite `all` is what `behind` says of the next place, or the line is wrong
+-- the suite `all` is what `read` says of the next place, or the line is wrong
 abbrev pub GoesOn : {Y : Type 0} → (Progress → Result Y WrongLine) → Result Progress SuiteFault
     → Result Y WrongLine → Type 0
-GoesOn behind (Ok after) all = all ≡ behind after
-GoesOn behind (Err (Line n fault)) all = all ≡ Err (n, (fault.found.now, fault.wanted))
-GoesOn behind (Err Memory) all = ⊤
+GoesOn read (Ok after) all = all ≡ read after
+GoesOn read (Err (Line n fault)) all = all ≡ Err (n, (fault.found.now, fault.wanted))
+GoesOn read (Err Memory) all = ⊤

@@ -13,8 +13,8 @@ use Rattle.lapd_conform_suite.specs.declared.words.TimeUnit.{TimeUnit}
 use Rattle.lapd_conform_suite.specs.declared.words.TimeUnit.TheVariants as timeunit
 use Rattle.lapd_conform_suite.specs.declared.words.Kind.{Kind}
 use Rattle.lapd_conform_suite.specs.declared.words.Kind.TheVariants as kind
-use Rattle.lapd_conform_suite.specs.declared.words.TeiKind.{TeiKind}
-use Rattle.lapd_conform_suite.specs.declared.words.TeiKind.TheVariants as teikind
+use Rattle.lapd_tei.specs.declared.kind.TeiKind.{TeiKind}
+use Rattle.lapd_tei.specs.declared.kind.TeiKind.TheVariants as teikind
 use Rattle.lapd_conform_suite.specs.declared.words.Opening.{Opening}
 use Rattle.lapd_conform_suite.specs.declared.words.Opening.TheVariants as opening
 use Rattle.lapd_conform_suite.specs.declared.words.Field.{Field}

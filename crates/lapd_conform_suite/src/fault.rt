@@ -2,7 +2,7 @@
 
 use std::fmt;
 
-/// What a line should have in place of a wrong word.
+/// The word or text that a line should have in place of a wrong word.
 #[derive(Clone, Copy)]
 pub enum Wanted {
     /// The first word of a line.
@@ -17,7 +17,7 @@ pub enum Wanted {
     Clause,
     /// `net` or `user`.
     Side,
-    /// What a stack needs.
+    /// A need of a case.
     Need,
     /// A state.
     Preamble,
@@ -51,7 +51,7 @@ pub enum Wanted {
     CaseFirst,
     /// `clause`, right after `case`.
     ClauseNext,
-    /// A line that belongs there: head lines stand before the first step.
+    /// A line that may follow: the lines of the head are before the first step.
     Step,
     /// `expect` before `or`, `and`, `at` and `within`.
     Expectation,
@@ -104,7 +104,7 @@ impl Wanted {
 pub struct Fault<'s> {
     /// The wrong word, or the text from there on. Empty if something is missing.
     pub found: &'s [u8],
-    /// What is wanted there.
+    /// The word or text that is expected there.
     pub wanted: Wanted,
 }
 

@@ -6,10 +6,11 @@ ghost use Rattle.lapd_conform_suite.specs.Reading.{ReadsAs};
 
 use crate::fault::{Fault, Wanted};
 use crate::number::{Number, Value, read_field_value, read_number};
-use crate::reading::{end, front_of, next, read_value};
-use crate::words::{Field, Kind, Opening, TeiKind, fields, kinds, openings, roles, tei_kinds};
+use crate::reading::{end, front_of, read_value, take_word};
+use crate::words::{Field, Kind, Opening, fields, kinds, openings, roles, tei_kinds};
 use lapd_cli_script::Words;
 use lapd_frame::Role;
+use lapd_tei::TeiKind;
 
 /// The information of a frame.
 #[derive(Clone, Copy)]
@@ -85,7 +86,7 @@ pub(crate) fn read_frame<'s>(mut words: Words<'s>) -> Result<Framed<'s>, Fault<'
     ensures { ReadsAs (λ framed. (framed.pattern, framed.digits.now)) result
         (frame_in words.entry) }
 {
-    let opening = read_value(openings(), Wanted::Opening, next(&mut words))?;
+    let opening = read_value(openings(), Wanted::Opening, take_word(&mut words))?;
     match opening {
         Opening::Command => read_link_frame(Role::Command, words),
         Opening::Response => read_link_frame(Role::Answer, words),
@@ -113,7 +114,7 @@ fn read_acknowledgement<'s>(mut words: Words<'s>) -> Result<Framed<'s>, Fault<'s
     ensures { ReadsAs (λ framed. (framed.pattern, framed.digits.now)) result
         (frame_by Opening.Acknowledgement words.entry) }
 {
-    let number = read_number(next(&mut words))?;
+    let number = read_number(take_word(&mut words))?;
     end(words)?;
     Ok(Framed {
         pattern: Pattern::Acknowledgement(number),
@@ -125,7 +126,7 @@ fn read_raw<'s>(mut words: Words<'s>) -> Result<Framed<'s>, Fault<'s>>
     ensures { ReadsAs (λ framed. (framed.pattern, framed.digits.now)) result
         (frame_by Opening.Raw words.entry) }
 {
-    let digits = read_hex(next(&mut words))?;
+    let digits = read_hex(take_word(&mut words))?;
     end(words)?;
     Ok(Framed {
         pattern: Pattern::Raw,
@@ -133,13 +134,13 @@ fn read_raw<'s>(mut words: Words<'s>) -> Result<Framed<'s>, Fault<'s>>
     })
 }
 
-/// Octets behind the address of the link: `C` or `R`, and digits.
+/// Octets after the address of the link: `C` or `R`, and digits.
 fn read_octets<'s>(mut words: Words<'s>) -> Result<Framed<'s>, Fault<'s>>
     ensures { ReadsAs (λ framed. (framed.pattern, framed.digits.now)) result
         (frame_by Opening.Octets words.entry) }
 {
-    let role = read_value(roles(), Wanted::Opening, next(&mut words))?;
-    let digits = read_hex(next(&mut words))?;
+    let role = read_value(roles(), Wanted::Opening, take_word(&mut words))?;
+    let digits = read_hex(take_word(&mut words))?;
     end(words)?;
     Ok(Framed {
         pattern: Pattern::Octets(role),
@@ -205,7 +206,7 @@ fn read_tei<'s>(mut words: Words<'s>) -> Result<Framed<'s>, Fault<'s>>
     ensures { ReadsAs (λ framed. (framed.pattern, framed.digits.now)) result
         (frame_by Opening.Tei words.entry) }
 {
-    let kind = read_value(tei_kinds(), Wanted::TeiKind, next(&mut words))?;
+    let kind = read_value(tei_kinds(), Wanted::TeiKind, take_word(&mut words))?;
     let read = read_fields(words)?;
     Ok(Framed {
         pattern: Pattern::Tei(kind, read.fields),
@@ -217,7 +218,7 @@ fn read_kind_and_fields<'s>(mut words: Words<'s>) -> Result<(Kind, ReadFields<'s
     ensures { ReadsAs (λ read. (read.0, (read.1.fields, read.1.digits.now))) result
         (kind_and_fields words.entry) }
 {
-    let kind = read_value(kinds(), Wanted::Kind, next(&mut words))?;
+    let kind = read_value(kinds(), Wanted::Kind, take_word(&mut words))?;
     let read = read_fields(words)?;
     Ok((kind, read))
 }

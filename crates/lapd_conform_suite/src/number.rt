@@ -5,16 +5,16 @@ ghost use Rattle.lapd_conform_suite.specs.Numbers.{amount_at, counted_from, numb
 ghost use Rattle.lapd_conform_suite.specs.Reading.{ReadsAs};
 
 use crate::fault::{Fault, Wanted};
-use crate::reading::{end, front_of, next, read_value, value_of};
+use crate::reading::{end, front_of, read_value, take_word, value_of};
 use crate::words::{Base, Choice, TimeUnit, bases, choices, units};
 use lapd_cli_script::{Words, number_of};
 
-/// A number: so much more than its base, if it has one.
+/// A number: the sum of its base, if it has one, and `plus`.
 #[derive(Clone, Copy)]
 pub struct Number {
-    /// What it counts from.
+    /// The base.
     pub base: Option<Base>,
-    /// What is added.
+    /// The number that is added.
     pub plus: u16,
 }
 
@@ -29,12 +29,12 @@ pub enum Value {
     Choice(Choice),
 }
 
-/// A time: so many milliseconds, or so many hundredths of a timer's duration.
+/// A time in milliseconds, or in hundredths of a timer's duration.
 #[derive(Clone, Copy)]
 pub struct Span {
-    /// How many.
+    /// The number of units.
     pub amount: u32,
-    /// Of which unit.
+    /// The unit.
     pub unit: TimeUnit,
 }
 
@@ -69,7 +69,7 @@ fn counted(word: &[u8]) -> Option<Number>
     }
 }
 
-/// A base, and what is added to it.
+/// A base, and the number that is added to it.
 fn plus(base: Base, rest: &[u8]) -> Option<Number>
     ensures { result ≡ plus_at base rest.now }
 {
@@ -110,8 +110,8 @@ pub(crate) fn read_field_value<'s>(word: &'s [u8]) -> Result<Value, Fault<'s>>
 pub(crate) fn read_span<'s>(mut words: Words<'s>) -> Result<Span, Fault<'s>>
     ensures { ReadsAs (λ span. span) result (span_at words.entry) }
 {
-    let amount = read_amount(next(&mut words))?;
-    let unit = read_value(units(), Wanted::Unit, next(&mut words))?;
+    let amount = read_amount(take_word(&mut words))?;
+    let unit = read_value(units(), Wanted::Unit, take_word(&mut words))?;
     end(words)?;
     Ok(Span { amount, unit })
 }

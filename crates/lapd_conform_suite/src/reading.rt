@@ -12,7 +12,7 @@ use lapd_cli_script::Words;
 
 /// The next word, or an empty one at the end of the line.
 #[tactic(auto, using(crate::proofs::Joined::never_none))]
-pub(crate) fn next<'s>(words: &mut Words<'s>) -> &'s [u8]
+pub fn take_word<'s>(words: &mut Words<'s>) -> &'s [u8]
     ensures first { result.now ≡ first_of words.old }
     ensures rest { words.new ≡ rest_of words.old }
 {
@@ -40,7 +40,7 @@ pub(crate) fn end<'s>(mut words: Words<'s>) -> Result<(), Fault<'s>>
 
 /// The meaning of a word in this table.
 #[tactic(auto, using(crate::proofs::Rows::value_found))]
-pub(crate) fn value_of<T: Copy>(table: &[Named<T>], word: &[u8]) -> Option<T>
+pub fn value_of<T: Copy>(table: &[Named<T>], word: &[u8]) -> Option<T>
     ensures { result ≡ value_named (map row_of table.now) word.now }
 {
     match row_named(table, word) {

@@ -1,8 +1,8 @@
-//! Whole suites: their lines, and the order in which lines may stand.
+//! Whole suites: their lines, and the order of lines.
 
 ghost use Rattle.std.specs.Prelude.{◌≡◌, ℕ, ◌+◌, List, ◌∷◌, ◌<◌, [], IfErr, IfNone, IfOk, IfSome, length, map};
 ghost use Rattle.lapd_cli_script.specs.Script.{lines_of};
-ghost use Rattle.lapd_conform_suite.specs.Suites.{GoesOn, ReadsAt, lines_from, read_behind, numbered_words, after_case, after_end, after_repeat, after_step, answer_at, clause_at, end_in, head_at, key_of as key_of_name, line_after, next_name, start, step_in, suite_in};
+ghost use Rattle.lapd_conform_suite.specs.Suites.{GoesOn, ReadsAt, lines_from, after_lines, numbered_words, after_case, after_end, after_repeat, after_step, answer_at, clause_at, end_in, head_at, key_of as key_of_name, line_after, next_name, start, step_in, suite_in};
 
 use crate::fault::{Fault, SuiteFault, Wanted};
 use crate::line::{Line, Step, read_line};
@@ -19,7 +19,7 @@ pub struct NumberedLine<'s> {
     pub line: Line<'s>,
 }
 
-/// The place in a case after some line.
+/// The place in a case after a line.
 #[derive(Clone, Copy)]
 pub(crate) enum Place {
     /// Before the first case.
@@ -34,7 +34,7 @@ pub(crate) enum Place {
     Answer,
 }
 
-/// What the lines read so far allow after them.
+/// The state that the lines read so far lead to: it decides which lines may follow.
 #[derive(Clone, Copy)]
 pub(crate) struct Progress {
     /// The place in the case.
@@ -162,7 +162,7 @@ impl Progress {
         })
     }
 
-    /// After a step, which may stand where the clause is known.
+    /// After a step, which may follow the clause.
     fn step(self, place: Place) -> Result<Progress, Wanted>
         ensures { result ≡ step_in self place }
     {
@@ -271,7 +271,7 @@ fn next_number<'s>(number: u64) -> Result<u64, SuiteFault<'s>>
     }
 }
 
-/// Reads a line, appends it unless it is skipped, and returns what may follow it.
+/// Reads a line, appends it unless it is skipped, and returns the state after it.
 fn take_line<'s>(
     lines: &mut Vec<NumberedLine<'s>>,
     progress: Progress,
@@ -279,8 +279,8 @@ fn take_line<'s>(
     line: &'s [u8],
 ) -> Result<Progress, SuiteFault<'s>>
     ensures { (rest : List (List ℕ)) → GoesOn
-        (λ after. read_behind lines.new.items (lines_from (number + 1) after rest)) result
-        (read_behind lines.old.items (lines_from number progress (line.now ∷ rest))) }
+        (λ after. after_lines lines.new.items (lines_from (number + 1) after rest)) result
+        (after_lines lines.old.items (lines_from number progress (line.now ∷ rest))) }
 {
     if is_passed_over(line) {
         return Ok(progress);
@@ -292,7 +292,7 @@ fn take_line<'s>(
     }
 }
 
-/// Reads a line where it may stand.
+/// Reads a line, and returns it with the state after it.
 fn read_after<'s>(
     progress: Progress,
     number: u64,
@@ -310,9 +310,9 @@ fn read_after<'s>(
     }
 }
 
-/// The first line, and the text behind it. Returns `None` at the end.
-#[tactic(auto, using(crate::proofs::TextLines::line_behind, crate::proofs::TextLines::last_line))]
-fn next_line(text: &[u8]) -> Option<(&[u8], &[u8])>
+/// The first line of a text, and the text after it. Returns `None` at the end.
+#[tactic(auto, using(crate::proofs::TextLines::one_line_and_rest, crate::proofs::TextLines::last_line))]
+pub fn next_line(text: &[u8]) -> Option<(&[u8], &[u8])>
     ensures none { IfNone result (lines_of text.now ≡ []) }
     ensures some { IfSome result (λ parts. lines_of text.now ≡ parts.0.now ∷ lines_of parts.1.now) }
     ensures shorter { IfSome result (λ parts. length parts.1.now < length text.now) }

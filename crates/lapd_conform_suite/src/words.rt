@@ -4,6 +4,7 @@ ghost use Rattle.std.specs.Prelude.{◌≡◌, map};
 ghost use Rattle.lapd_conform_suite.specs.Words.{row_of, keywords as keywords_rows, needs as needs_rows, preambles as preambles_rows, requests as requests_rows, units as units_rows, kinds as kinds_rows, tei_kinds as tei_kinds_rows, openings as openings_rows, fields as fields_rows, bases as bases_rows, choices as choices_rows, roles as roles_rows, sides as sides_rows, timers as timers_rows};
 
 use lapd_frame::{Role, Side};
+use lapd_tei::TeiKind;
 use lapd_timers::Timer;
 
 /// A word and its meaning.
@@ -31,7 +32,7 @@ pub enum Keyword {
     Clause,
     /// `ends`: The only end that the case is for.
     Ends,
-    /// `needs`: What the stack under test needs for the case.
+    /// `needs`: A capability that the stack must have for the case.
     Needs,
     /// `state`: The preamble: leads the stack into a state.
     State,
@@ -45,15 +46,15 @@ pub enum Keyword {
     Or,
     /// `and`: One more frame, in any order.
     And,
-    /// `at`: The frame comes when a timer expires.
+    /// `at`: The frame is sent when a timer expires.
     At,
-    /// `within`: The frame comes within a time.
+    /// `within`: The frame is sent within a time.
     Within,
     /// `quiet`: The stack sends nothing for a time.
     Quiet,
     /// `pause`: A wait.
     Pause,
-    /// `allow`: Frames that may come at any time from here on.
+    /// `allow`: A frame that the stack may send at any time from here on.
     Allow,
     /// `forget`: Ends all allowances.
     Forget,
@@ -73,7 +74,7 @@ pub(crate) fn keywords() -> &'static [Named<Keyword>]
     KEYWORDS
 }
 
-/// What a stack needs for a case.
+/// A need of a case: a capability of the stack.
 #[derive(Clone, Copy, PartialEq, Eq)]
 pub enum Need {
     /// `give`: Its upper tester submits messages.
@@ -152,7 +153,7 @@ pub(crate) fn preambles() -> &'static [Named<Preamble>]
 }
 
 /// A request to the upper tester.
-#[derive(Clone, Copy)]
+#[derive(Clone, Copy, Debug, PartialEq, Eq)]
 pub enum Request {
     /// `establish`: DL-ESTABLISH request.
     Establish,
@@ -246,25 +247,6 @@ pub(crate) fn kinds() -> &'static [Named<Kind>]
     KINDS
 }
 
-/// The kind of a message of TEI management (Q.921 5.3.6, Table 8).
-#[derive(Clone, Copy, PartialEq, Eq)]
-pub enum TeiKind {
-    /// `Request`: Identity request.
-    Request,
-    /// `Assigned`: Identity assigned.
-    Assigned,
-    /// `Denied`: Identity denied.
-    Denied,
-    /// `CheckRequest`: Identity check request.
-    CheckRequest,
-    /// `CheckResponse`: Identity check response.
-    CheckResponse,
-    /// `Remove`: Identity remove.
-    Remove,
-    /// `Verify`: Identity verify.
-    Verify,
-}
-
 const TEI_KINDS: &[Named<TeiKind>] =
     table!(TeiKind: "Request" Request "Assigned" Assigned "Denied" Denied "CheckRequest" CheckRequest "CheckResponse" CheckResponse "Remove" Remove "Verify" Verify);
 
@@ -286,7 +268,7 @@ pub enum Opening {
     CommandOrResponse,
     /// `tei`: A message of TEI management.
     Tei,
-    /// `octets`: Octets behind the address of the link.
+    /// `octets`: Octets after the address of the link.
     Octets,
     /// `raw`: All octets of a frame.
     Raw,
@@ -299,7 +281,7 @@ pub enum Opening {
 const OPENINGS: &[Named<Opening>] =
     table!(Opening: "C" Command "R" Response "*" CommandOrResponse "tei" Tei "octets" Octets "raw" Raw "ack" Acknowledgement "nothing" Nothing);
 
-/// The words of a [`Opening`].
+/// The words of an [`Opening`].
 pub(crate) fn openings() -> &'static [Named<Opening>]
     ensures { map row_of result.now ≡ openings_rows }
 {
@@ -350,7 +332,7 @@ pub(crate) fn fields() -> &'static [Named<Field>]
     FIELDS
 }
 
-/// What a number counts from.
+/// The base of a number.
 #[derive(Clone, Copy)]
 pub enum Base {
     /// `K`: The window k.
@@ -363,7 +345,7 @@ pub enum Base {
     LastRequests,
     /// `N202`: N202.
     N202,
-    /// `i`: The number of the turn of the repetition, from 0.
+    /// `i`: The number of repetitions before this one.
     Turn,
     /// `$a`: The value that `?a` kept.
     ValueA,
@@ -396,7 +378,7 @@ pub enum Choice {
     KeepR,
     /// `automatic`: 64 to 126, the automatic TEIs.
     Automatic,
-    /// `requested`: 64 to 127, what a request may ask for.
+    /// `requested`: 64 to 127, what a terminal may request.
     Requested,
     /// `unlike-a`: Any value but `$a`.
     UnlikeA,

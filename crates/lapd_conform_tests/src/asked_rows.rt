@@ -338,7 +338,7 @@ fn message_row(link: &Link, ns: u8, p: bool) -> &'static str {
     }
 }
 
-/// The row of the N(R) of a frame of this kind, behind the kind.
+/// The row of the N(R) of a frame of this kind, after the kind.
 fn number_row(link: &Link, kind: &str, nr: u8) -> &'static str {
     let window = link.window();
     let (first, last) = (window.va().value(), window.vs().value());

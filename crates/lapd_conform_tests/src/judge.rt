@@ -1,6 +1,7 @@
 //! Tests of the judge: dialogues, and the judgement on each.
 
-use lapd_conform::{Ask, Happening, Params, Sapi, Setup, Side, Tei, What, judge};
+use lapd_conform::{Happening, Params, Request, Setup, Side, Tei, What, judge};
+use lapd_link::Sapi;
 use lapd_test_text::{Subject, Text, split, wrong_row};
 use std::alloc::{AllocError, Global};
 use std::test::Fail;
@@ -105,9 +106,9 @@ fn what_of(mark: &str, word: &str) -> What {
     match (mark, word) {
         (">", _) => What::Sent,
         ("<", _) => What::Received,
-        (_, "establish") => What::Asked(Ask::Establish),
-        (_, "release") => What::Asked(Ask::Release),
-        _ => What::Asked(Ask::Give),
+        (_, "establish") => What::Requested(Request::Establish),
+        (_, "release") => What::Requested(Request::Release),
+        _ => What::Requested(Request::Give),
     }
 }
 
@@ -118,7 +119,6 @@ fn moment(digits: &str) -> u64 {
 fn setup() -> Setup {
     Setup {
         side: Side::Network,
-        sapi: Sapi::Call,
         tei: Tei::new(64).unwrap(),
         params: Params::new(7, 3, 64).unwrap_or(Params::basic(Sapi::Call)),
         t200: 1_000,

@@ -52,7 +52,7 @@ fn requests(side: Side) -> Requests {
 
 /// How the cases of a stack ended.
 #[derive(Drop)]
-struct Tally {
+struct Verdicts {
     alloc: Global,
     passed: u32,
     inconclusive: u32,
@@ -63,9 +63,9 @@ struct Tally {
     rows: AskedRows,
 }
 
-impl Tally {
-    fn new(alloc: Global) -> Tally {
-        Tally {
+impl Verdicts {
+    fn new(alloc: Global) -> Verdicts {
+        Verdicts {
             alloc,
             passed: 0,
             inconclusive: 0,
@@ -201,7 +201,7 @@ fn no_case_fails(alloc: Global, is_kept: bool, delay: u32, most: u32) -> Result<
         (Side::Network, false),
         (Side::User, false),
     ] {
-        let mut tally = Tally::new(alloc);
+        let mut tally = Verdicts::new(alloc);
         let own = Own {
             is_kept,
             ..right(side, is_primary, delay)
@@ -260,7 +260,7 @@ fn no_case_fails_if_the_stack_begins_late(rt: HostRuntime) -> Result<(), Fail> {
         idle: 4_000,
         ..right(Side::Network, true, 0)
     };
-    let mut tally = Tally::new(rt.alloc());
+    let mut tally = Verdicts::new(rt.alloc());
     let played = tally.play_suite(own, "");
     if played.is_ok() && tally.failed.is("") && tally.passed > 150 {
         return Ok(());
@@ -319,7 +319,7 @@ fn is_found(alloc: Global, row: &str) -> bool {
         planted: planted(fault),
         ..right(Side::Network, true, 0)
     };
-    let mut tally = Tally::new(alloc);
+    let mut tally = Verdicts::new(alloc);
     let played = tally.play_suite(own, name);
     played.is_ok() && !tally.failed.is("")
 }

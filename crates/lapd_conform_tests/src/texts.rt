@@ -141,7 +141,7 @@ fn put_tally(grades: &str, status: &str, made: &mut Text) {
     }
 }
 
-/// The rounds of so many stimuli, and the stimuli of one of them.
+/// The rounds of this number of stimuli, and the stimuli of one of them.
 fn put_plan(count: &str, number: &str, made: &mut Text) {
     let plan = DrawPlan {
         count: count.parse::<u64>().unwrap_or(0),

@@ -1,17 +1,17 @@
-//! Frames that an end has sent and the tester has not yet received.
+//! Frames of the link, as the judge sees them.
 
-use crate::replay::MESSAGE;
+use crate::own_link::MESSAGE;
 use crate::setup::Setup;
 use lapd_link::{Control, Frame, Role, Sapi};
 
-/// A frame that the tester has to receive. Its information is empty, or the message of the judge.
+/// A frame of the link. Its information is empty, or the message of the judge.
 #[derive(Clone, Copy, PartialEq, Eq)]
-pub(crate) struct Owed {
+pub(crate) struct LinkFrame {
     pub role: Role,
     pub control: Control,
 }
 
-impl Owed {
+impl LinkFrame {
     /// Whether it is an acknowledgement alone: RR response with F=0. A later frame with N(R) may
     /// take its place (Q.921 5.6.2.2).
     pub fn is_acknowledgement(&self) -> bool {
@@ -67,7 +67,7 @@ impl Owed {
     /// Whether a frame that was received is right in the place of this one. `last` is the N(S) of the
     /// I frame that may take the place of an enquiry (Q.921 5.6.7). `repeats` allows a REJ in place
     /// of the RR with F=1 that answers an I frame out of sequence (Q.921 Appendix I).
-    pub fn is_met_by(&self, seen: &Owed, last: Option<u8>, repeats: bool) -> bool {
+    pub fn is_met_by(&self, seen: &LinkFrame, last: Option<u8>, repeats: bool) -> bool {
         if self == seen {
             return true;
         }
@@ -92,9 +92,9 @@ impl Owed {
 /// A frame of the stack, as the judge sees it.
 pub(crate) enum Seen {
     /// A frame of the link that its table speaks of.
-    Link(Owed),
+    Link(LinkFrame),
     /// UI and XID frames, and TEI management: the judge allows them at any time.
-    Beside,
+    Other,
     /// Octets that no end of the link sends.
     Wrong,
 }
@@ -103,10 +103,10 @@ pub(crate) enum Seen {
 pub(crate) fn frame_seen(setup: &Setup, octets: &[u8]) -> Seen {
     match lapd_frame::read(octets, setup.side) {
         Ok(frame) => {
-            if is_beside(&frame) {
-                Seen::Beside
+            if is_other(&frame) {
+                Seen::Other
             } else if is_of_link(setup, &frame) {
-                Seen::Link(Owed {
+                Seen::Link(LinkFrame {
                     role: frame.address().role,
                     control: frame.control(),
                 })
@@ -119,14 +119,14 @@ pub(crate) fn frame_seen(setup: &Setup, octets: &[u8]) -> Seen {
 }
 
 /// Whether it is UI, XID or TEI management.
-fn is_beside(frame: &Frame<'_>) -> bool {
+fn is_other(frame: &Frame<'_>) -> bool {
     matches!(frame.control(), Control::Ui { .. } | Control::Xid { .. })
         || matches!(frame.address().sapi, Sapi::Management)
 }
 
 /// Whether it has the address of the link and, if it is a message, the octets of one.
 fn is_of_link(setup: &Setup, frame: &Frame<'_>) -> bool {
-    let is_for_link = frame.address().sapi == setup.sapi && frame.address().tei == setup.tei;
+    let is_for_link = frame.address().sapi == Sapi::Call && frame.address().tei == setup.tei;
     let is_message = matches!(frame.control(), Control::I { .. });
     is_for_link && (!is_message || setup.active || frame.info() == MESSAGE)
 }
