@@ -9,8 +9,9 @@ use lapd_cli_live::{
     Impaired, LiveFault, LiveSide, LiveStop, Printer, Style, Tapped, frames_of_step, live_script,
     live_session,
 };
+use lapd_cli_notes::Notes;
 use lapd_cli_options::{Interface, LiveOptions};
-use lapd_cli_outputs::{NoTaps, Notes, TapSetup, Taps};
+use lapd_cli_outputs::{NoTaps, TapSetup, Taps};
 use lapd_cli_script::ScriptFault;
 use lapd_sides::{Acts, Config, EitherSide, NetSide, Request, Side, Timer, UserSide};
 use std::alloc::AllocError;

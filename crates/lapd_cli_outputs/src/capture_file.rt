@@ -3,9 +3,9 @@
 
 ghost use Rattle.std.specs.Prelude.{◌≤◌, length};
 
-use crate::notes::Notes;
 use crate::record_file::RecordFile;
 use lapd_capture::{BLOCKS_HEADER, CaptureWriter, MOST_FRAME, block_of};
+use lapd_cli_notes::Notes;
 use lapd_frame::Side;
 use std::fs::File;
 use std::io::{self, Write};

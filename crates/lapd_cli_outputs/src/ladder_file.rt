@@ -1,8 +1,8 @@
 //! The file of a ladder.
 
-use crate::notes::Notes;
 use crate::record_file::{Place, RecordFile};
 use lapd_cli_decode::{FrameDrawer, Missing, ladder_head};
+use lapd_cli_notes::Notes;
 use lapd_frame::Side;
 use std::alloc::AllocError;
 use std::fs::File;

@@ -10,15 +10,10 @@ mod capture_file;
 mod growing_file;
 mod ladder_file;
 mod losses;
-mod notes;
-mod picture_file;
 mod protection;
 mod record_file;
 mod taps;
-mod watch;
 
 pub use growing_file::NoFile;
-pub use notes::Notes;
-pub use picture_file::PictureFile;
 pub use protection::{Content, Protection, protection_of};
 pub use taps::{NoTaps, TapSetup, Taps};
