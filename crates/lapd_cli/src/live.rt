@@ -3,6 +3,7 @@
 use crate::console_notes::ConsoleNotes;
 use crate::ending::Stop;
 use crate::job::{SideSetup, config_of};
+use crate::line_ladder::LineLadder;
 use lapd_cli_console::Script;
 use lapd_cli_io::{BusSetup, ConnectionSetup, Connections, connect_side};
 use lapd_cli_live::{
@@ -19,7 +20,7 @@ use std::io::{IsTerminal, Read, Write};
 use std::random::RandomSource;
 
 /// The line to the other side. It can be impaired, and its frames are recorded.
-type Line<'a> = Tapped<Impaired<Connections<'a>>, Taps<'a>>;
+type Line<'a> = Tapped<Impaired<Connections<'a>>, Taps<'a, LineLadder>>;
 
 /// Runs this side of an interface with the real clock: it executes a script, or typed lines if
 /// standard input is a terminal.
