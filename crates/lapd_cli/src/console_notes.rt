@@ -2,7 +2,7 @@
 
 use lapd_cli_console::{Script, put_help, reason, tidied};
 use lapd_cli_live::Console;
-use lapd_cli_outputs::Notes;
+use lapd_cli_notes::Notes;
 use std::alloc::{AllocError, Global};
 
 /// Notes which lines a command has, and what is wrong with a line.

@@ -10,13 +10,12 @@ use lapd_cli_decode::{
     Drawing, Filter, Follow, FrameStyle, FrameTime, Layout, LineForm, LinesStyle, Style, decode,
     decode_good_lines, decode_lines, print_lines,
 };
-use lapd_cli_io::connection;
 use lapd_cli_link_commands::{bus, draw_pair, loop_over, pair};
+use lapd_cli_notes::{Notes, connection};
 use lapd_cli_options::{
     Clock, Color, DecodeOptions, Interface, Invocation, Job, LinkEnd, Params, PrintedLayout,
     PrintedTime, Side,
 };
-use lapd_cli_outputs::Notes;
 use lapd_cli_script::ScriptFault;
 use lapd_cli_side_commands::{Config, FromRead, FromWrite, Port, SideRun, net, user};
 use lapd_cli_side_lines::LineStyle;

@@ -3,14 +3,16 @@
 use crate::console_notes::ConsoleNotes;
 use crate::ending::Stop;
 use crate::job::{SideSetup, config_of};
+use crate::line_ladder::LineLadder;
 use lapd_cli_console::Script;
 use lapd_cli_io::{BusSetup, ConnectionSetup, Connections, connect_side};
 use lapd_cli_live::{
     Impaired, LiveFault, LiveSide, LiveStop, Printer, Style, Tapped, frames_of_step, live_script,
     live_session,
 };
+use lapd_cli_notes::Notes;
 use lapd_cli_options::{Interface, LiveOptions};
-use lapd_cli_outputs::{NoTaps, Notes, TapSetup, Taps};
+use lapd_cli_outputs::{NoTaps, TapSetup, Taps};
 use lapd_cli_script::ScriptFault;
 use lapd_sides::{Acts, Config, EitherSide, NetSide, Request, Side, Timer, UserSide};
 use std::alloc::AllocError;
@@ -18,7 +20,7 @@ use std::io::{IsTerminal, Read, Write};
 use std::random::RandomSource;
 
 /// The line to the other side. It can be impaired, and its frames are recorded.
-type Line<'a> = Tapped<Impaired<Connections<'a>>, Taps<'a>>;
+type Line<'a> = Tapped<Impaired<Connections<'a>>, Taps<'a, LineLadder>>;
 
 /// Runs this side of an interface with the real clock: it executes a script, or typed lines if
 /// standard input is a terminal.

@@ -20,6 +20,7 @@ mod ending;
 mod files;
 mod greeting;
 mod job;
+mod line_ladder;
 mod live;
 mod local_zone;
 mod log;

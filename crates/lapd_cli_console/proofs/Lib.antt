@@ -1,4 +1,3 @@
-mod AnswerLines
 mod GivenPart
 mod KeptLines
 mod TypedLine

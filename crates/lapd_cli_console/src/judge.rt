@@ -1,8 +1,6 @@
 //! The reason why a line is not valid for its command.
 
-ghost use Rattle.std.specs.Prelude.{◌≡◌, is_none, is_some, IfOk};
-ghost use Rattle.lapd_cli_script.specs.Script.{outcome_of};
-ghost use Rattle.lapd_cli_answer.specs.Answer.{Session, answer_step};
+ghost use Rattle.std.specs.Prelude.{◌≡◌, is_none, IfOk};
 ghost use Rattle.lapd_cli_grammar.specs.Values.{is_line_of};
 
 use crate::complaint::Complaint;
@@ -13,15 +11,14 @@ use std::alloc::{AllocError, Global};
 
 /// Returns what is wrong with the form of a command's line, as one line of text. Neither line has a
 /// line feed. Returns `None` if the form is valid, and for empty lines and comments. A `tick` may
-/// have a valid form and still take the clock of `net` or `user` past its end.
+/// have a valid form and still take the clock of `net` or `user` past its end. `reason_of_answer`
+/// of `lapd_program_laws` says what this means for the steps of `answer`.
 ///
 /// # Errors
 ///
 /// `AllocError` if an allocation fails.
 pub fn reason(alloc: Global, script: Script, line: &[u8]) -> Result<Option<String>, AllocError>
-    ensures form { IfOk result (λ reason. is_none reason ≡ is_line_of script line.now) }
-    ensures answer { IfOk result (λ reason. script ≡ Script.Answer → (s : Session)
-        → is_none reason ≡ is_some (outcome_of answer_step s line.now)) }
+    ensures { IfOk result (λ reason. is_none reason ≡ is_line_of script line.now) }
 {
     match complaint(alloc, script, line)? {
         None => Ok(None),

@@ -1,9 +1,8 @@
 //! How the connections of a side with the real clock are made.
 
-use crate::connection;
 use crate::connections::Connections;
 use crate::shared_bus::BusSetup;
-use lapd_cli_outputs::Notes;
+use lapd_cli_notes::{Notes, connection};
 use lapd_frame::Side;
 use mio::net::{TcpListener, TcpStream};
 use std::io;

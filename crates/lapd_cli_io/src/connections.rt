@@ -5,7 +5,6 @@ ghost use Rattle.std.specs.Prelude.{◌≤◌, IfOk, IfSome};
 
 use crate::acceptor::Acceptor;
 use crate::clock::RealClock;
-use crate::connection;
 use crate::dialler::Dialler;
 use crate::discards::Discards;
 use crate::frame_stream::FrameStream;
@@ -14,7 +13,7 @@ use crate::lost::Lost;
 use crate::next_connections::{INCOMING, Incoming, NextConnections};
 use crate::peers::{LostPeer, Peers};
 use crate::shared_bus::{BusSetup, ForeignUse, SharedBus};
-use lapd_cli_outputs::Notes;
+use lapd_cli_notes::{Notes, connection};
 use lapd_cli_script::port_reason;
 use lapd_cli_wire::{
     Impairment, Incident, Lines, MOST_RECEIVED, Outside, Sending, Woken, is_reached,

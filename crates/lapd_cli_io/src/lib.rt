@@ -10,7 +10,6 @@ mod acceptor;
 mod auditor;
 mod clock;
 mod connecting;
-pub mod connection;
 mod connections;
 mod dialler;
 mod discards;

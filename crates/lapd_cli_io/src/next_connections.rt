@@ -3,7 +3,7 @@
 use crate::acceptor::Acceptor;
 use crate::dialler::{Attempt, Dialler};
 use crate::lost::Lost;
-use lapd_cli_outputs::Notes;
+use lapd_cli_notes::Notes;
 use lapd_cli_script::Reason;
 use mio::net::TcpStream;
 use mio::{Poll, Token};

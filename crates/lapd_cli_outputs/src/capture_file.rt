@@ -3,11 +3,9 @@
 
 ghost use Rattle.std.specs.Prelude.{◌≤◌, length};
 
-use crate::notes::Notes;
 use crate::record_file::RecordFile;
 use lapd_capture::{BLOCKS_HEADER, CaptureWriter, MOST_FRAME, block_of};
 use lapd_frame::Side;
-use std::fs::File;
 use std::io::{self, Write};
 
 /// The file of a capture.
@@ -28,19 +26,12 @@ pub(crate) struct BlockFile<'rt> {
 }
 
 impl<'rt> CaptureFile<'rt> {
-    /// Begins the capture of this side in this file, which is open for writing and has this path.
+    /// Begins the capture of this side in this file.
     ///
     /// # Errors
     ///
     /// The system's error.
-    pub(crate) fn begin(
-        rt: &'rt HostRuntime,
-        notes: &'rt Notes<'rt>,
-        own: Side,
-        path: String,
-        file: File,
-    ) -> io::Result<CaptureFile<'rt>> {
-        let mut file = RecordFile::new(rt, notes, "capture", path, file);
+    pub(crate) fn begin(own: Side, mut file: RecordFile<'rt>) -> io::Result<CaptureFile<'rt>> {
         if file.has_reader() {
             file.begin(&BLOCKS_HEADER)?;
             return Ok(CaptureFile::Pcapng(BlockFile { own, file }));

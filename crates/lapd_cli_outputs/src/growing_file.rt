@@ -1,6 +1,8 @@
 //! A file that other programs read while it grows.
 
 use crate::protection::{Content, Protection, protection_of, stream_into};
+use crate::record_file::RecordFile;
+use lapd_cli_notes::Notes;
 use std::fs::{self, File, OpenOptions};
 use std::io::{self, ErrorKind};
 
@@ -24,6 +26,12 @@ pub enum NoFile {
     Protected(Protection),
 }
 
+impl From<io::Error> for NoFile {
+    fn from(error: io::Error) -> NoFile {
+        NoFile::Device(error)
+    }
+}
+
 impl GrowingFile {
     /// Opens this file for such a content, and makes it if it does not exist. Waits for the reader
     /// of a named pipe.
@@ -31,10 +39,9 @@ impl GrowingFile {
         if let Some(stream) = stream_into(rt, path) {
             return Err(NoFile::Protected(Protection::Stream(stream)));
         }
-        match protection_of(rt, path, content, &["-"]) {
-            Ok(None) => opened(rt, path).map_err(NoFile::Device),
-            Ok(Some(protection)) => Err(NoFile::Protected(protection)),
-            Err(error) => Err(NoFile::Device(error)),
+        match protection_of(rt, path, content, &["-"])? {
+            Some(protection) => Err(NoFile::Protected(protection)),
+            None => Ok(opened(rt, path)?),
         }
     }
 
@@ -43,13 +50,18 @@ impl GrowingFile {
         self.is_regular
     }
 
-    /// Removes its content, and returns the file and its path.
-    pub fn begin(self) -> io::Result<(File, String)> {
+    /// Removes its content, and begins to record into it. Notes name the record by this word.
+    pub fn begin<'rt>(
+        self,
+        rt: &'rt HostRuntime,
+        notes: &'rt Notes<'rt>,
+        name: &'static str,
+    ) -> Result<RecordFile<'rt>, NoFile> {
         if self.is_regular {
             self.file.set_len(0)?;
         }
         let GrowingFile { path, file, .. } = self;
-        Ok((file, path))
+        Ok(RecordFile::new(rt, notes, name, path, file))
     }
 
     /// Removes the file if opening it has made it. Otherwise it stays as it was.

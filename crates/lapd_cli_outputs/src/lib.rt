@@ -1,24 +1,20 @@
-//! The program's outputs beside standard output: captures, ladders, pictures, GSMTAP, and notes on
-//! standard error; and which files an output may overwrite.
+//! The program's outputs beside standard output: captures, ladders and GSMTAP; and which files an
+//! output may overwrite.
 //!
-//! Begin with [`Taps`], which records each frame of a side with the real clock, and
-//! [`PictureFile`], which a picture is written into. [`protection_of`] returns what keeps a file
-//! from being overwritten.
+//! Begin with [`Taps`], which records each frame of a side with the real clock. Its caller chooses
+//! the [`Ladder`]. [`protection_of`] returns what keeps a file from being overwritten.
 #![tactic(auto)]
 
 mod capture_file;
 mod growing_file;
+mod ladder;
 mod ladder_file;
 mod losses;
-mod notes;
-mod picture_file;
 mod protection;
 mod record_file;
 mod taps;
-mod watch;
 
 pub use growing_file::NoFile;
-pub use notes::Notes;
-pub use picture_file::PictureFile;
+pub use ladder::Ladder;
 pub use protection::{Content, Protection, protection_of};
 pub use taps::{NoTaps, TapSetup, Taps};

@@ -1,6 +1,6 @@
 //! Frames that a record lacks, and the notes about them.
 
-use crate::notes::Notes;
+use lapd_cli_notes::Notes;
 
 /// The least time between two notes about one record, in milliseconds.
 const APART: u64 = 1000;

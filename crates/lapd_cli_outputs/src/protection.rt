@@ -18,7 +18,7 @@ pub enum Content {
 }
 
 /// Why a file must not be overwritten.
-#[derive(Clone, Copy, PartialEq, Eq)]
+#[derive(Clone, Copy)]
 pub enum Protection {
     /// The same command reads it.
     Input,

@@ -3,8 +3,7 @@
 ghost use Rattle.std.specs.Io.{WritesAtMost};
 
 use crate::losses::Losses;
-use crate::notes::Notes;
-use crate::watch::Watch;
+use lapd_cli_notes::{Notes, Watch};
 use std::alloc::AllocError;
 use std::fs::{File, OpenOptions};
 use std::io::{self, ErrorKind, Write};

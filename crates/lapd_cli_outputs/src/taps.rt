@@ -4,13 +4,15 @@ ghost use Rattle.std.specs.Prelude.{◌≤◌, length};
 
 use crate::capture_file::CaptureFile;
 use crate::growing_file::{GrowingFile, NoFile};
+use crate::ladder::Ladder;
 use crate::ladder_file::LadderFile;
-use crate::notes::Notes;
 use crate::protection::{Content, is_same_file};
 use lapd_capture::gsmtap_of;
+use lapd_cli_notes::Notes;
 use lapd_cli_script::Reason;
 use lapd_cli_wire::{MOST_RECEIVED, Tap};
 use lapd_frame::Side;
+use std::alloc::AllocError;
 use std::io::{self, ErrorKind};
 use std::net::{SocketAddr, ToSocketAddrs, UdpSocket};
 use std::time::{SystemTime, UNIX_EPOCH};
@@ -45,7 +47,7 @@ pub enum NoTaps {
 /// once on standard error, and it is not used any more. None of them blocks: frames that a capture or
 /// a ladder doesn't take at once are not recorded, and are counted.
 #[derive(Drop)]
-pub struct Taps<'rt> {
+pub struct Taps<'rt, L> {
     rt: &'rt HostRuntime,
     notes: &'rt Notes<'rt>,
     own: Side,
@@ -55,7 +57,7 @@ pub struct Taps<'rt> {
     /// The time of the start, in milliseconds since 1970, known from the first frame on.
     begun: Option<u64>,
     capture: Option<CaptureFile<'rt>>,
-    ladder: Option<LadderFile<'rt>>,
+    ladder: Option<LadderFile<'rt, L>>,
     gsmtap: Option<GsmtapSocket>,
 }
 
@@ -66,7 +68,7 @@ struct GsmtapSocket {
     address: SocketAddr,
 }
 
-impl<'rt> Taps<'rt> {
+impl<'rt, L: Ladder> Taps<'rt, L> {
     /// Opens the files and the socket of this side. Regular files keep what they have until
     /// [`Taps::begin`], and are not recorded into before. The first frame is stamped by the
     /// system's clock, the later ones by the line's clock.
@@ -80,7 +82,7 @@ impl<'rt> Taps<'rt> {
         notes: &'rt Notes<'rt>,
         own: Side,
         setup: &TapSetup<'_>,
-    ) -> Result<Taps<'rt>, NoTaps> {
+    ) -> Result<Taps<'rt, L>, NoTaps> {
         let mut taps = Taps {
             rt,
             notes,
@@ -184,22 +186,21 @@ impl<'rt> Taps<'rt> {
 
     // Begins this side's capture in a file.
     fn begin_capture(&mut self, file: GrowingFile) -> Result<(), NoTaps> {
-        let begun = capture_into(self.rt, self.notes, self.own, file);
-        let capture = begun.map_err(|error| NoTaps::Capture(NoFile::Device(error)))?;
-        self.capture = Some(capture);
+        let begun = file.begin(self.rt, self.notes, "capture");
+        let capture = CaptureFile::begin(self.own, begun.map_err(NoTaps::Capture)?);
+        self.capture = Some(capture.map_err(|error| NoTaps::Capture(NoFile::Device(error)))?);
         Ok(())
     }
 
     // Begins a ladder in a file.
     fn begin_ladder(&mut self, file: GrowingFile) -> Result<(), NoTaps> {
-        let begun = file.begin();
-        let (file, path) = begun.map_err(|error| NoTaps::Ladder(NoFile::Device(error)))?;
-        match LadderFile::begin(self.rt, self.notes, path, file) {
+        let begun = file.begin(self.rt, self.notes, "ladder");
+        match LadderFile::begin(self.rt, begun.map_err(NoTaps::Ladder)?) {
             Ok(ladder) => {
                 self.ladder = Some(ladder);
                 Ok(())
             }
-            Err(_) => Err(NoTaps::Memory),
+            Err(AllocError) => Err(NoTaps::Memory),
         }
     }
 
@@ -214,7 +215,7 @@ impl<'rt> Taps<'rt> {
     }
 }
 
-impl Tap for Taps<'_> {
+impl<'rt, L: Ladder> Tap for Taps<'rt, L> {
     fn pass(&mut self, from: Side, moment: u64, frame: &[u8]) {
         let time = self.time_of(moment);
         self.capture_frame(from, time, frame);
@@ -223,7 +224,7 @@ impl Tap for Taps<'_> {
     }
 }
 
-impl Taps<'_> {
+impl<'rt, L: Ladder> Taps<'rt, L> {
     // The time of a moment of the line, in milliseconds since 1970.
     fn time_of(&mut self, moment: u64) -> u64 {
         let begun = begun_at(self.rt, self.begun, moment);
@@ -299,17 +300,6 @@ impl GsmtapSocket {
 fn gsmtap_address(rt: &HostRuntime, address: &str) -> io::Result<SocketAddr> {
     let first = address.to_socket_addrs(rt)?.next();
     first.ok_or(io::Error::from(ErrorKind::NotFound))
-}
-
-// Begins this side's capture in a file.
-fn capture_into<'rt>(
-    rt: &'rt HostRuntime,
-    notes: &'rt Notes<'rt>,
-    own: Side,
-    file: GrowingFile,
-) -> io::Result<CaptureFile<'rt>> {
-    let (file, path) = file.begin()?;
-    CaptureFile::begin(rt, notes, own, path, file)
 }
 
 // The time of the start: the known one, or `moment` milliseconds ago.

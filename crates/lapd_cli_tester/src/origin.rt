@@ -1,7 +1,6 @@
 //! How connections to the stack under test are made.
 
-use lapd_cli_io::connection;
-use lapd_cli_outputs::Notes;
+use lapd_cli_notes::{Notes, connection};
 use mio::{Events, Poll};
 use std::io::{self, ErrorKind};
 use std::net::{TcpListener, TcpStream};

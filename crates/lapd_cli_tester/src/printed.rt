@@ -9,7 +9,7 @@ use lapd_cli_conform::{
     push_found, push_line, push_object, push_test_case,
 };
 use lapd_cli_console::Escaped;
-use lapd_cli_outputs::PictureFile;
+use lapd_cli_notes::PictureFile;
 use std::fmt::Display;
 use std::io::{self, ErrorKind, IsTerminal, Write};
 use std::time::Instant;

@@ -13,8 +13,7 @@ use lapd_cli_conform::{
     DrawPlan, DrawnRun, Halt, KnownCases, Run, Selection, Stack, read_stack, usual_stack,
     without_upper,
 };
-use lapd_cli_io::connection;
-use lapd_cli_outputs::Notes;
+use lapd_cli_notes::{Notes, connection};
 use lapd_frame::Side;
 use std::random::RandomSource;
 use std::{fs, io};

@@ -1,3 +1,4 @@
+pub mod AnswerLines
 pub mod Lines
 pub mod Prints
 pub mod OwnTei

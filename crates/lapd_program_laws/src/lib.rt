@@ -3,7 +3,7 @@
 //!
 //! An interface (`lapd_two_side_laws`) has two sides and the octets between them, and each of its
 //! links is safe. The commands `net` and `user` (`lapd_cli_side_commands`) read and write a port.
-//! This crate connects the commands to the interface; it has no code that runs. It speaks only of
+//! This crate connects the commands to the interface; the program runs none of it. It speaks only of
 //! scripts that end well, over a source and a sink whose octets are known, as those of a socket are
 //! not. In the order of specs/:
 //!
@@ -20,11 +20,14 @@
 //!   `UnorderedRuns`: two scripts whose lines have no order, and of which one prints an error.
 //!
 //! Begin with [`lines_are_events`], then read [`joined_programs_are_safe`] and
-//! [`joined_runs_are_right`].
+//! [`joined_runs_are_right`]. Apart from these, [`answer_lines_have_valid_forms`] says that the forms
+//! of the lines of `answer` (`lapd_cli_grammar`) agree with its equations (`lapd_cli_answer`).
 #![tactic(auto)]
 
+mod answer_lines;
 mod laws;
 
+pub use answer_lines::{answer_lines_have_valid_forms, reason_of_answer};
 pub use laws::{
     joined_programs_are_safe, joined_runs_are_printed, joined_runs_are_right, lines_are_events,
     lines_are_printed, order_is_needed, worked_runs_meet_premises,

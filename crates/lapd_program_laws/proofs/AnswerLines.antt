@@ -1,7 +1,7 @@
 -- For a line that is not skipped, `answer` has a step exactly if the line has a valid form.
-use Rattle.std.proofs.Common.{◌≡◌, ℕ, List, [], ◌∷◌, Bool, true, false, refl, cond, Some, None, length, sym, ap, ◌∙◌, subst, codes, ◌||◌, ◌==◌}
+use Rattle.std.proofs.Common.{◌≡◌, ℕ, List, [], ◌∷◌, Bool, true, false, refl, cond, Some, None, Result, Ok, Err, length, sym, ap, ◌∙◌, codes, ◌||◌, ◌==◌}
 use Rattle.std.proofs.lemmas.Bool.{eqb-false}
-use Rattle.std.specs.Prelude.{Option, option_and_then, option_map, is_some}
+use Rattle.std.specs.Prelude.{Option, option_and_then, option_map, is_none, is_some, IfOk}
 use Rattle.std.specs.List.{AllByRecursion}
 use Rattle.std.specs.Str.{bytes_eq}
 use Rattle.lapd_cli_script.specs.Line.{words_of, HasNoSpace, octets_behind}
@@ -12,7 +12,6 @@ use Rattle.lapd_link.specs.Input.{Expiry, Establish, Release, BusyOn, BusyOff, U
 use Rattle.lapd_link.specs.declared.Timer.TheVariants.{T200, T203}
 use Rattle.lapd_cli_grammar.specs.declared.form.Argument.{Argument}
 use Rattle.lapd_cli_grammar.specs.declared.form.Argument.TheVariants.{Hex, OnOff}
-use Rattle.lapd_cli_grammar.specs.declared.script.Script.{Script}
 use Rattle.lapd_cli_grammar.specs.declared.script.Script.TheVariants.{Answer}
 use Rattle.lapd_cli_grammar.specs.Forms.{Shape, shape_named}
 use Rattle.lapd_cli_grammar.specs.Values.{LineValues, by_arguments, is_line_of, no_values, parsed_octets, parsed_words, values_by, with_words}
@@ -165,10 +164,9 @@ answer_lines s line =
     unless_passed (is_passed_over line) _ ([], s) (answer_step s line)
     (words_fit s (words_of line) (words_have_no_space line))
 
--- a test of the form of `answer`'s lines is a test of whether `answer` has a step for the line
-pub answer_implied : (reported : Bool) (script : Script) (line : List ℕ)
-    → reported ≡ is_line_of script line → script ≡ Answer
-    → (s : Session) → reported ≡ is_some (outcome_of answer_step s line)
-answer_implied reported script line e is s =
-    let P : Script → Type 0 = λ command. reported ≡ is_line_of command line in
-    subst P is e ∙ answer_lines s line
+-- a report that names no fault of a line's form names none of its step
+pub reports_steps : {X E : Type 0} (report : Result (Option X) E) (line : List ℕ)
+    → IfOk report (λ fault. is_none fault ≡ is_line_of Answer line)
+    → IfOk report (λ fault. (s : Session) → is_none fault ≡ is_some (outcome_of answer_step s line))
+reports_steps (Ok fault) line h = λ s. h ∙ answer_lines s line
+reports_steps (Err e) line h = h

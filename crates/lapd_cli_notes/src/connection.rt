@@ -1,6 +1,6 @@
 //! The TCP connections of the program, and their notes on standard error.
 
-use lapd_cli_outputs::Notes;
+use crate::notes::Notes;
 use lapd_cli_script::port_reason;
 use lapd_port::PortFault;
 use std::io::{self, ErrorKind, Read};
@@ -8,7 +8,7 @@ use std::net::{Shutdown, SocketAddr, TcpListener, TcpStream};
 use std::time::{Duration, Instant};
 
 /// How long a closing side reads what still arrives, in milliseconds at most.
-pub(crate) const LINGER: u64 = 1000;
+pub const LINGER: u64 = 1000;
 
 /// The most octets per read while a connection is closed.
 const PART: usize = 4096;
