@@ -6,13 +6,14 @@ use Rattle.std.specs.Io.KnownBytes.{Appends}
 use Rattle.lapd_frame.specs.declared.Side.{Side}
 use Rattle.lapd_frame.specs.Address.{other_side}
 use Rattle.lapd_trace.specs.Trace.{trace_line}
-use Rattle.lapd_cli_render.specs.Json.{frame_members, object_text, primitive_members, text_members}
+use Rattle.lapd_cli_render.specs.Json.{frame_members, object_text, text_members}
 use Rattle.lapd_cli_script.specs.Line.{text_line}
 use Rattle.lapd_sides_links.specs.declared.primitive.Primitive.{Primitive}
 use Rattle.lapd_sides_links.specs.declared.side_fault.SideKind.{SideKind}
 use Rattle.lapd_sides_links.specs.Texts.{kind_text}
 use Rattle.lapd_cli_side_lines.specs.declared.line_style.LineStyle.{LineStyle}
 use Rattle.lapd_cli_side_lines.specs.declared.line_style.LineStyle.TheVariants.{Text, Json}
+use Rattle.lapd_cli_side_lines.specs.Primitives.{primitive_members}
 use Rattle.lapd_cli_side_lines.specs.SideTexts.{frame_text_line, primitive_line}
 use Rattle.lapd_cli_live_text.specs.AwaitedLine.{begins_as}
 use Rattle.lapd_cli_live_text.specs.LineObjects.{words_object}

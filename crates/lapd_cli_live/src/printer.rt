@@ -2,7 +2,7 @@
 
 ghost use Rattle.std.specs.Prelude.{◌≡◌, ◌||◌, ◌++◌, ◌∷◌, [], ℕ, List, codes, OnOk};
 ghost use Rattle.std.specs.String.{string_bytes};
-ghost use Rattle.lapd_cli_render.specs.Json.{frame_members, object_text, primitive_members, text_members};
+ghost use Rattle.lapd_cli_render.specs.Json.{frame_members, object_text, text_members};
 ghost use Rattle.lapd_trace.specs.Trace.{trace_line};
 ghost use Rattle.lapd_cli_live_text.specs.Stats.{received_words, reports_words, sent_words};
 ghost use Rattle.lapd_cli_live.specs.Entries.{Dated, Lost, Named, Received, Sent, Delivered, Worded, begins_so as begins, moment_text, refused, sent_entry, stats_entries, timed_object, unless_quiet, with_moment};
@@ -17,7 +17,7 @@ use crate::recent_output::RecentOutput;
 use crate::style::Style;
 use lapd_cli_live_text::{Stats, begins_as, words_object};
 use lapd_cli_script::LineFault;
-use lapd_cli_side_lines::{LineStyle, push_primitive, push_trace_of};
+use lapd_cli_side_lines::{LineStyle, primitive_object, push_primitive, push_trace_of};
 use lapd_cli_wire::Sending;
 use lapd_frame::{Frame, FrameFault, Side, read};
 use lapd_sides::{Primitive, SideKind};
@@ -260,7 +260,7 @@ impl<W: Write> Printer<W> {
         match self.style.lines {
             LineStyle::Text => self.put_words_line(),
             LineStyle::Json => {
-                let object = lapd_cli_render::primitive_line(self.alloc, primitive)?;
+                let object = primitive_object(self.alloc, primitive)?;
                 self.put_object_line(object.as_str())
             }
         }

@@ -5,7 +5,7 @@
 //! frame's fields by the names that they have in a trace line, or the first fault if the octets do
 //! not form a valid frame. [`line_of`] does so for octets that were already read. [`named_line`]
 //! also says which message the frame carries. [`packet_line`] and [`named_packet_line`] do the same
-//! for octets in a [`Packet`] of a capture. [`primitive_line`] shows a primitive.
+//! for octets in a [`Packet`] of a capture.
 //!
 //! **Words.** [`push_names`] names a message of TEI management (ITU-T Q.921 5.3.6) with its
 //! numbers, and a message of Q.931 (ITU-T Q.931 4.4, Table 4-2) with its call reference (4.3) and
@@ -19,12 +19,10 @@ mod lines;
 mod members;
 mod names;
 mod packet;
-mod primitives;
 
 pub use call_message::{CallMessage, CallReference};
 pub use lapd_frame::Side;
-pub use lapd_sides_links::Primitive;
-pub use lines::{line, line_of, named_line};
+pub use lines::{line, line_of, named_line, put_octets};
+pub use members::{Members, text_line};
 pub use names::push_names;
 pub use packet::{Packet, named_packet_line, packet_line};
-pub use primitives::{primitive_line, text_line};

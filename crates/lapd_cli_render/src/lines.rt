@@ -208,7 +208,11 @@ fn put_poll(members: &mut Members, role: Role, pf: bool) -> Result<(), AllocErro
 }
 
 /// Adds octets in lower case hexadecimal, if there are any.
-pub(crate) fn put_octets(
+///
+/// # Errors
+///
+/// `AllocError` if an allocation fails.
+pub fn put_octets(
     alloc: Global,
     members: &mut Members,
     key: &str,

@@ -1,3 +1,4 @@
 pub mod Calls
+pub mod Primitives
 pub mod SideTexts
 pub mod LineRequests

@@ -4,7 +4,7 @@
 use Rattle.std.specs.Prelude.{ℕ, List, [], ◌++◌, flat_map, codes, Result, Ok, Err, ⊤}
 use Rattle.lapd_frame.specs.declared.Side.{Side}
 use Rattle.lapd_trace.specs.Trace.{trace_line}
-use Rattle.lapd_cli_render.specs.Json.{frame_members, object_text, primitive_members, text_members}
+use Rattle.lapd_cli_render.specs.Json.{frame_members, object_text, text_members}
 use Rattle.lapd_cli_script.specs.Line.{text_line}
 use Rattle.lapd_tei.specs.declared.out.TeiOut.TheVariants as tei
 use Rattle.lapd_sides_links.specs.declared.primitive.Primitive.{Primitive}
@@ -13,6 +13,7 @@ use Rattle.lapd_sides_links.specs.declared.side_fault.SideFault.{SideFault}
 use Rattle.lapd_sides_links.specs.declared.side_fault.SideKind.{SideKind}
 use Rattle.lapd_sides_links.specs.Effects.{Effects}
 use Rattle.lapd_sides_links.specs.Texts.{primitive_text, kind_text}
+use Rattle.lapd_cli_side_lines.specs.Primitives.{primitive_members}
 use Rattle.lapd_cli_side_lines.specs.declared.line_style.LineStyle.{LineStyle}
 use Rattle.lapd_cli_side_lines.specs.declared.line_style.LineStyle.TheVariants.{Text, Json}
 

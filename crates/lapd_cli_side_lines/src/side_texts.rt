@@ -11,6 +11,7 @@ ghost use Rattle.lapd_cli_side_lines.specs.SideTexts.{primitive_line, primitives
 ghost use Rattle.lapd_cli_side_lines.specs.LineRequests.{IsGood};
 
 use crate::line_style::LineStyle;
+use crate::primitives::primitive_object;
 use lapd_cli_script::LineFault;
 use lapd_frame::Sapi;
 use lapd_sides::{LinkId, Primitive, SideKind, TeiOut, What};
@@ -79,10 +80,7 @@ fn push_styled_primitive(
 {
     match style {
         LineStyle::Text => push_words(alloc, primitive, text),
-        LineStyle::Json => push_line(
-            text,
-            lapd_cli_render::primitive_line(alloc, primitive)?.as_str(),
-        ),
+        LineStyle::Json => push_line(text, primitive_object(alloc, primitive)?.as_str()),
     }
 }
 

@@ -3,10 +3,10 @@
 ghost use Rattle.std.specs.Prelude.{◌≡◌, IfOk, OnOk};
 ghost use Rattle.std.specs.String.{string_bytes};
 ghost use Rattle.serde_json.specs.View.{members_view};
-ghost use Rattle.lapd_cli_render.specs.Json.{object_text, primitive_members, text_members, with_link, with_outcome, with_primitive, with_tei, with_primitive_members, with_what};
+ghost use Rattle.lapd_cli_render.specs.Json.{object_text};
+ghost use Rattle.lapd_cli_side_lines.specs.Primitives.{primitive_members, with_link, with_outcome, with_primitive, with_tei, with_primitive_members, with_what};
 
-use crate::lines::put_octets;
-use crate::members::Members;
+use lapd_cli_render::{Members, put_octets};
 use lapd_sides_links::{LinkId, Primitive, Tei, TeiOut, What};
 use std::alloc::{AllocError, Global};
 
@@ -23,26 +23,12 @@ use std::alloc::{AllocError, Global};
 /// # Errors
 ///
 /// `AllocError` if an allocation fails.
-pub fn primitive_line(alloc: Global, primitive: &Primitive) -> Result<String, AllocError>
+pub fn primitive_object(alloc: Global, primitive: &Primitive) -> Result<String, AllocError>
     ensures { IfOk result (λ text.
         string_bytes text ≡ object_text (primitive_members primitive.now)) }
 {
     let mut members = Members::new(alloc);
     put_primitive_members(alloc, &mut members, primitive)?;
-    members.into_text()
-}
-
-/// Returns the JSON object of one member, a text, in one line without line feeds.
-///
-/// # Errors
-///
-/// `AllocError` if an allocation fails.
-pub fn text_line(alloc: Global, key: &str, text: &str) -> Result<String, AllocError>
-    ensures { IfOk result (λ line.
-        string_bytes line ≡ object_text (text_members key.now text.now)) }
-{
-    let mut members = Members::new(alloc);
-    members.put_text(key, text)?;
     members.into_text()
 }
 
