@@ -21,11 +21,11 @@ const MOST_FILE: usize = 262_144;
 /// read, that is reported, and the zone is UTC.
 pub fn zone_of(rt: &HostRuntime, time: PrintedTime) -> Zone {
     if !matches!(time, PrintedTime::Local) {
-        return Zone::utc(rt.alloc());
+        return Zone::Utc;
     }
     match user_zone(rt) {
         Some(zone) => zone,
-        None => Zone::utc(rt.alloc()),
+        None => Zone::Utc,
     }
 }
 
@@ -50,7 +50,7 @@ fn user_zone(rt: &HostRuntime) -> Option<Zone> {
 fn named_zone(rt: &HostRuntime, name: &str) -> Option<Zone> {
     let name = name.strip_prefix(":").unwrap_or(name);
     if name.is_empty() {
-        return Some(Zone::utc(rt.alloc()));
+        return Some(Zone::Utc);
     }
     let found = if name.starts_with("/") {
         file_zone(rt, name)
@@ -62,7 +62,7 @@ fn named_zone(rt: &HostRuntime, name: &str) -> Option<Zone> {
     };
     match found {
         Some(zone) => Some(zone),
-        None => Zone::of_text(rt.alloc(), name.as_bytes()),
+        None => Zone::of_text(name.as_bytes()),
     }
 }
 

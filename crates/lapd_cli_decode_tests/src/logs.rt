@@ -87,7 +87,7 @@ fn begins_with(printed: &[u8], wanted: &str) -> bool {
 
 // Prints a log with this time. Returns how many times go back.
 fn print_log(alloc: Global, time: &str, log: &str, printed: &mut Vec<u8>) -> Option<u64> {
-    let zone = Zone::of_text(alloc, b"CET-1CEST,M3.5.0,M10.5.0/3")?;
+    let zone = Zone::of_text(b"CET-1CEST,M3.5.0,M10.5.0/3")?;
     print_log_in(alloc, times_of(time, &zone), time, log, printed)
 }
 

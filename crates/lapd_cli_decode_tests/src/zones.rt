@@ -51,7 +51,7 @@ fn row_holds(alloc: Global, row: &str) -> bool {
 // The zone of a file that these digits spell, or of a rule.
 fn zone_of(alloc: Global, text: &str) -> Option<Zone> {
     if !text.starts_with("545a6966") {
-        return Zone::of_text(alloc, text.as_bytes());
+        return Zone::of_text(text.as_bytes());
     }
     let Ok(file) = hex::decode(alloc, text.as_bytes()) else {
         return None;

@@ -1,6 +1,6 @@
 //! The time of a line of a log.
 
-use crate::date::days_since_1970;
+use crate::date::day_number;
 use crate::text::{digits_behind, digits_len, is_digit, is_hex_digit, number_at};
 use lapd_cli_script::{first_line, is_word, number_of};
 
@@ -145,7 +145,7 @@ fn digits_at(text: &[u8]) -> Option<Stamp> {
     let (hour, rest) = number_of_first(2, rest)?;
     let (minute, rest) = number_of_first(2, rest)?;
     let (second, rest) = number_of_first(2, rest)?;
-    let days = days_of(year, month, day)?;
+    let days = day_number(year, month, day)?;
     if hour > 23 || minute > 59 || second > 60 {
         return None;
     }
@@ -202,7 +202,7 @@ fn stamp_of(seconds: u64, before: &[u8], behind: &[u8], other_year: u64) -> Stam
         None => None,
     };
     let days = match date {
-        Some(date) => days_of(year.unwrap_or(other_year), date.month, date.day),
+        Some(date) => day_number(year.unwrap_or(other_year), date.month, date.day),
         None => None,
     };
     let seconds = days
@@ -363,14 +363,6 @@ fn written_date(word: &[u8]) -> Option<Date> {
         }
         _ => None,
     }
-}
-
-// The days from 1970 to this day, if it is one.
-fn days_of(year: u64, month: u64, day: u64) -> Option<u64> {
-    if year < 1970 || year > 9999 || month < 1 || month > 12 || day < 1 || day > 31 {
-        return None;
-    }
-    Some(days_since_1970(year, month, day))
 }
 
 // The number of the month with this name.
