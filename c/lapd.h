@@ -491,7 +491,7 @@ static inline const char *lapd_kind_string(uint8_t kind)
 	}
 }
 
-/* The name of a setting, as it is spelled in lapd_settings. Since 0.3. */
+/* The name of a setting, as spelled in lapd_settings. Since 0.3. */
 static inline const char *lapd_setting_string(uint8_t setting)
 {
 	switch (setting) {
