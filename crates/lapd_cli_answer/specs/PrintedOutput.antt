@@ -6,9 +6,7 @@ use Rattle.lapd_link.specs.SentFrame.{sent_frame}
 use Rattle.lapd_link.specs.Timer.{timer_name}
 use Rattle.lapd_link.specs.declared.Out.{Out}
 use Rattle.lapd_link.specs.declared.Out.TheVariants as out
-use Rattle.lapd_sides_links.specs.Effects.{what_of}
-use Rattle.lapd_sides_links.specs.Texts.{what_text}
-use Rattle.lapd_sides_links.specs.declared.primitive.What.{What}
+use Rattle.lapd_link.specs.Texts.{reported_text}
 use Rattle.lapd_cli_script.specs.Line.{text_line}
 
 -- the octets that outputs refer to: the received message and unit data, and the unit data sent
@@ -25,20 +23,20 @@ pub data PrintedOutput : Type 0 where
   Timer : (line : List ℕ) → PrintedOutput
   Nothing : PrintedOutput
 
--- the report that a whole side would make of an output
-abbrev pub what_printed : OutputOctets → Out → Option What
-what_printed s out.UnitUp = what_of s.unit out.UnitUp
-what_printed s output = what_of s.message output
+-- the text of an output that a whole side would report
+abbrev pub text_printed : OutputOctets → Out → Option (List ℕ)
+text_printed s out.UnitUp = reported_text s.unit out.UnitUp
+text_printed s output = reported_text s.message output
 
 -- an output without a frame, in the words of a whole side's report
-abbrev pub printed_as : Option What → Out → PrintedOutput
-printed_as (Some what) output = Primitive (text_line (what_text what))
+abbrev pub printed_as : Option (List ℕ) → Out → PrintedOutput
+printed_as (Some text) output = Primitive (text_line text)
 printed_as None (out.Start timer) = Timer (text_line (codes "start " ++ timer_name timer))
 printed_as None (out.Stop timer) = Timer (text_line (codes "stop " ++ timer_name timer))
 printed_as None other = Nothing
 
 abbrev pub printed_unsent : OutputOctets → Out → PrintedOutput
-printed_unsent s output = printed_as (what_printed s output) output
+printed_unsent s output = printed_as (text_printed s output) output
 
 -- an output, with its frame if it has one
 abbrev pub printed_with : Option Fields → OutputOctets → Out → PrintedOutput

@@ -27,7 +27,6 @@ use Rattle.lapd_link_definition.specs.End.{StepState}
 use Rattle.lapd_link_definition.specs.Input as input
 use Rattle.lapd_link_definition.specs.Table.{step}
 use Rattle.lapd_cli_script.specs.Line.{text_line}
-use Rattle.lapd_sides_links.specs.declared.primitive.What.{What}
 use Rattle.lapd_trace.specs.Trace.{frame_line}
 use Rattle.lapd_trace.proofs.FrameLines.{line_of_spelling}
 use Rattle.lapd_pair_laws.specs.Consistent.{IsConsistentWorld}
@@ -37,7 +36,7 @@ use Rattle.lapd_cli_answer.proofs.Framed.{IsSent, same_lines}
 use Rattle.lapd_cli_answer.specs.Answer.{messages_of}
 use Rattle.lapd_cli_link_commands.specs.Pair.{move_made, move_printed, side_line, output_octets_of, printed_line, printed_lines, unit_of}
 use Rattle.lapd_cli_link_commands.specs.RepresentsWorld.{made_side_line, made_side_lines}
-use Rattle.lapd_cli_answer.specs.PrintedOutput.{OutputOctets, printed_output, printed_as, printed_with, what_printed}
+use Rattle.lapd_cli_answer.specs.PrintedOutput.{OutputOctets, printed_output, printed_as, printed_with, text_printed}
 
 -- ---- A frame that is built.
 
@@ -69,10 +68,10 @@ made_has_content setup messages input_octets out.SendUnit =
 made_has_content setup messages input_octets output = tt
 
 -- an output without a frame has the same line in both forms
-line_of_unsent : (side : Side) (what : Option What) (output : Out)
-    → side_line (frame_line side) side (printed_as what output)
-    ≡ printed_line side (printed_as what output)
-line_of_unsent side (Some what) output = refl
+line_of_unsent : (side : Side) (text : Option (List ℕ)) (output : Out)
+    → side_line (frame_line side) side (printed_as text output)
+    ≡ printed_line side (printed_as text output)
+line_of_unsent side (Some text) output = refl
 line_of_unsent side None (out.Start timer) = refl
 line_of_unsent side None (out.Stop timer) = refl
 line_of_unsent side None output = refl
@@ -81,7 +80,7 @@ line_of_made : (side : Side) (made : Option Fields) (s : OutputOctets) (output :
     → HasContent made
     → side_line (frame_line side) side (printed_with made s output)
     ≡ printed_line side (printed_with made s output)
-line_of_made side None s output h = line_of_unsent side (what_printed s output) output
+line_of_made side None s output h = line_of_unsent side (text_printed s output) output
 line_of_made side (Some f) s output h =
     ap (λ (t : List ℕ). text_line t) (sym (line_of_spelling side f h))
 

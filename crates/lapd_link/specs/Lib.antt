@@ -23,3 +23,4 @@ pub use Rattle.lapd_supervision.specs.StateVariables
 pub use Rattle.lapd_timers.specs.Timer
 pub mod Link
 pub mod SentFrame
+pub mod Texts

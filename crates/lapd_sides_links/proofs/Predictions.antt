@@ -9,7 +9,9 @@ use Rattle.lapd_frame.specs.declared.Role.{Role}
 use Rattle.lapd_frame.specs.declared.Role.TheVariants.{Command, Answer}
 use Rattle.lapd_frame.specs.declared.Side.{Side}
 use Rattle.lapd_timers.specs.Due.{Timers}
-use Rattle.lapd_frame.specs.PredictedFrame.{is_predictable}
+use Rattle.lapd_frame.specs.PredictedFrame.{is_predictable, predicted_control, predicted_role}
+use Rattle.lapd_frame.specs.declared.Number.{Number}
+use Rattle.lapd_frame.specs.declared.predicted_frame.PredictedKind.{PredictedKind}
 use Rattle.lapd_link.specs.Link.{LinkRepresents}
 use Rattle.lapd_link.specs.declared.link.Link.{Link}
 use Rattle.lapd_link_definition.specs.End.{End}
@@ -22,11 +24,11 @@ use Rattle.lapd_table.specs.LinkTable.{link_at, NotAtOnceAt, NotPredictedAt}
 use Rattle.lapd_sides_links.specs.declared.acts.TheConstants.{MOST_FRAMES, MOST_PRIMITIVES}
 use Rattle.lapd_sides_links.specs.declared.link_set.LinkSet.{LinkSet}
 use Rattle.lapd_sides_links.specs.declared.side_fault.SideKind.{SideKind}
-use Rattle.lapd_sides_links.specs.Effects.{Effects}
+use Rattle.lapd_sides_links.specs.Effects.{Adds, Appends, Effects, no_effects}
 use Rattle.lapd_sides_links.specs.Links.{Linked, Links, Reaction, gives_at_once, in_links, link_acts, predicts}
 use Rattle.lapd_sides_links.specs.Rooms.{HasRoomFor, HasRoomForPredicted, has_room_for_predicted}
 use Rattle.lapd_sides_links.specs.Shown.{timers_at, IsLinked, LinksDo, LinksHaveNone, ShowLinks}
-use Rattle.lapd_sides_links.proofs.Acting.{nothing_linked}
+use Rattle.lapd_sides_links.proofs.Acting.{done_alone, nothing_linked}
 
 -- ---- Room.
 
@@ -63,6 +65,18 @@ pub do_as_found : (now : ℕ) (found id : LinkId) (same : found ≡ id) (control
     → LinksDo old new before after (hears now id control role octets)
 do_as_found now found id same control role octets old new before after h =
     subst (λ (i : LinkId). LinksDo old new before after (hears now i control role octets)) same h
+
+-- the frame is of the kind that was processed
+pub acts_as_kind : (now : ℕ) (found id : LinkId) (same : found ≡ id) (kind known : PredictedKind)
+    (is : kind ≡ known) (nr : Number) (octets : List ℕ) (old new : LinkSet) (before after : Effects)
+    → Appends before after
+    → LinksDo old new before after
+    (hears now found (predicted_control known nr) (predicted_role known) octets)
+    → Adds before after (λ given. LinksDo old new no_effects given
+    (hears now id (predicted_control kind nr) (predicted_role kind) octets))
+acts_as_kind now found id same kind known is nr octets old new before after appends does =
+    rw is (done_alone old new before after _ appends
+    (do_as_found now found id same _ _ octets old new before after does))
 
 -- ---- The steps that are not made.
 

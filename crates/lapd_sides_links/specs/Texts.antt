@@ -1,9 +1,9 @@
 -- The printed form of primitives and of refusals.
 use Rattle.std.specs.Prelude.{ℕ, List, [], ◌∷◌, ◌++◌, codes}
 use Rattle.std.specs.Fmt.{decimal}
-use Rattle.hex.specs.Hex.{encode_lower}
 use Rattle.lapd_frame.specs.Address.{sapi_value}
-use Rattle.lapd_link.specs.Out.{letter_code, word_of_out}
+use Rattle.lapd_link.specs.Out.{word_of_out}
+use Rattle.lapd_link.specs.Texts.{out_rest}
 use Rattle.lapd_link_definition.specs.declared.out.Out.{Out}
 use Rattle.lapd_link_definition.specs.declared.out.Out.TheVariants as out
 use Rattle.lapd_link.specs.Refusal.{refusal_name}
@@ -21,11 +21,6 @@ use Rattle.lapd_sides_links.specs.declared.side_fault.SideKind.TheVariants as ki
 abbrev pub id_text : LinkId → List ℕ
 id_text id = decimal (sapi_value id.sapi) ++ 32 ∷ decimal id.tei ++ 32 ∷ []
 
--- a space and the hexadecimal digits of octets, nothing for no octets
-abbrev pub digits_text : List ℕ → List ℕ
-digits_text [] = []
-digits_text (octet ∷ octets) = 32 ∷ encode_lower (octet ∷ octets)
-
 -- the first word of a link's primitive: that of its output
 abbrev pub what_word : What → List ℕ
 what_word (what.Up octets) = word_of_out out.Up
@@ -38,13 +33,13 @@ what_word (what.Acknowledged n) = word_of_out (out.Acknowledged n)
 what_word (what.Dropped n) = word_of_out (out.Dropped n)
 what_word (what.Report letter) = word_of_out (out.Report letter)
 
--- the rest of a link's primitive
+-- the rest of a link's primitive: that of its output
 abbrev pub what_rest : What → List ℕ
-what_rest (what.Up octets) = digits_text octets
-what_rest (what.UnitUp octets) = digits_text octets
-what_rest (what.Acknowledged n) = 32 ∷ decimal n
-what_rest (what.Dropped n) = 32 ∷ decimal n
-what_rest (what.Report letter) = 32 ∷ letter_code letter ∷ []
+what_rest (what.Up octets) = out_rest octets out.Up
+what_rest (what.UnitUp octets) = out_rest octets out.UnitUp
+what_rest (what.Acknowledged n) = out_rest [] (out.Acknowledged n)
+what_rest (what.Dropped n) = out_rest [] (out.Dropped n)
+what_rest (what.Report letter) = out_rest [] (out.Report letter)
 what_rest other = []
 
 abbrev pub what_text : What → List ℕ

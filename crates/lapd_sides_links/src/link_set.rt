@@ -407,50 +407,26 @@ impl LinkSet {
         ensures unchanged { result ≡ false → self.new ≡ self.old }
         ensures nothing { result ≡ false → acts.new ≡ acts.old }
     {
+        let Some(key) = self.table.find(id) else {
+            return false;
+        };
         let nr = frame.nr;
         let info = frame.info;
         match frame.kind {
             PredictedKind::Message(ns) => {
-                self.act_predicted_kind(id, PredictedKind::Message(ns), nr, info, now, acts)
+                self.act_predicted_at(&key, PredictedKind::Message(ns), nr, info, now, acts)
             }
             PredictedKind::Acknowledgement => {
-                self.act_predicted_kind(id, PredictedKind::Acknowledgement, nr, info, now, acts)
+                self.act_predicted_at(&key, PredictedKind::Acknowledgement, nr, info, now, acts)
             }
             PredictedKind::Poll => {
-                self.act_predicted_kind(id, PredictedKind::Poll, nr, info, now, acts)
+                self.act_predicted_at(&key, PredictedKind::Poll, nr, info, now, acts)
             }
         }
     }
 
-    /// Like `act_predicted`, for a frame of this kind with this N(R) and information.
-    #[inline(always)]
-    fn act_predicted_kind(
-        &mut self,
-        id: &LinkId,
-        kind: PredictedKind,
-        nr: Number,
-        info: &[u8],
-        now: u64,
-        acts: &mut Acts,
-    ) -> bool
-        requires fits { length info.now ≤ N201 }
-        requires room { HasRoomForPredicted acts.old }
-        ensures ok { result ≡ true → Adds acts.old acts.new (λ given.
-            LinksDo self.old self.new no_effects given
-            (λ side. in_links id.now (link_acts side id.now now
-            (Heard (predicted_control kind nr) (predicted_role kind)) info.now))) }
-        ensures declined { result ≡ false → LinksHaveNone self.old (λ links. predicts
-            (predicted_control kind nr) (predicted_role kind) (links id.now)) }
-        ensures unchanged { result ≡ false → self.new ≡ self.old }
-        ensures nothing { result ≡ false → acts.new ≡ acts.old }
-    {
-        match self.table.find(id) {
-            Some(key) => self.act_predicted_at(&key, kind, nr, info, now, acts),
-            None => false,
-        }
-    }
-
-    /// Like `act_predicted_kind`, for a link that has been found.
+    /// Like `act_predicted`, for a link that has been found, and a frame of this kind with this N(R)
+    /// and information.
     #[inline(always)]
     fn act_predicted_at(
         &mut self,
