@@ -1,6 +1,8 @@
 # make            proves and builds the program lapd, with progress (about 35 minutes on four cores the first time, 3 GB of disk)
 # make test       runs the tests from source, before any proof; make test-long runs the long ones, with drawn inputs
 # make check      proves everything, runs all tests and tries the must-fail edits: the gate
+# make check-papers   checks what needs no program: documents, manual, laws, English, edits, towers
+# make check-program  runs the program that `make` built: statuses, examples, sides, pages, captures
 # make install    installs what `make` built: program, manual page and completions, under DESTDIR and PREFIX
 # make uninstall  removes them
 # make clean      removes what was built in this clone
@@ -27,6 +29,12 @@ test-long:
 check:
 	rt ci
 
+check-papers:
+	@tools/check papers
+
+check-program:
+	@tools/check --program $(PROGRAM) program
+
 install:
 	@test -x $(PROGRAM) || { echo "the program is not built; run make first" >&2; exit 1; }
 	install -D -m 755 $(PROGRAM) $(TO)/bin/lapd
@@ -44,4 +52,4 @@ clean:
 help:
 	@sed -n 's/^# //p' Makefile
 
-.PHONY: all test test-long check install uninstall clean help
+.PHONY: all test test-long check check-papers check-program install uninstall clean help

@@ -1,7 +1,7 @@
 /* A data link with callbacks, as in libpri, over liblapd, which has none: some 60 lines to copy,
  * and a program that uses them. Each call passes something to the side, and then calls back with
  * all frames and primitives that wait. A call from within a callback only passes its argument in:
- * its results are queued behind the rest. So callbacks are never nested, and keep the order. */
+ * its results are queued after the rest. So callbacks are never nested, and keep the order. */
 #include "lapd.h"
 
 #include <stdbool.h>

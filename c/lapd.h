@@ -10,7 +10,7 @@
  *   fetches    the frames to send and the primitives for layer 3, each in order, until none is left
  *              (lapd_side_next; or lapd_side_frame and lapd_side_primitive). It may make other
  *              calls before it has fetched all, such as a request that answers a primitive; their
- *              frames and primitives are queued behind the rest;
+ *              frames and primitives are queued after the rest;
  *   waits      until lapd_side_deadline, or until a frame arrives.
  *
  * Before you expire timers for a moment, pass in every frame that had arrived by then. A loop reads
@@ -24,7 +24,7 @@
  * A program must keep these rules:
  *   - A lapd_side is initialized with LAPD_SIDE_INIT. After that only these functions access it,
  *     and it is never copied.
- *   - Each pointer points to objects of its type, as many as the size beside it says. It may be
+ *   - Each pointer points to objects of its type, as many as its size argument says. It may be
  *     NULL if that size is 0. Memory that a call writes does not overlap any other argument.
  *   - Only one call at a time uses a side. This holds for calls with a `const lapd_side *` too,
  *     which leave the side unchanged. Calls may be made by several threads if locks, or the start
@@ -33,7 +33,7 @@
  * If it does, every call is safe for all numbers, octets and moments: it returns, does not block or
  * call back, and writes nothing outside the buffers. Four things are trusted for this, not proved:
  * the stack suffices; the C compiler and the library agree on the calling convention; a call
- * accesses nothing at NULL if the size beside it is 0, which is tested; and malloc, realloc and
+ * accesses nothing at NULL if its size argument is 0, which is tested; and malloc, realloc and
  * free, or the heap of your own in their place, do what they promise. For a handle that owns no
  * side, new or freed, a call returns LAPD_NO_SIDE, unless a number is out of range.
  *
@@ -430,7 +430,7 @@ lapd_result lapd_side_primitive(lapd_side *side, lapd_primitive *primitive, uint
 
 /* Writes a line of text for the octets of a frame, as in `N>U SAPI 0 TEI 64 C RR N(R)=0 P=1`, or
  * for the first fault if they do not form a valid frame. The sender is a network side if `network`
- * is not 0, else a user side. The text is at the beginning of the buffer, with a 0 behind it if
+ * is not 0, else a user side. The text is at the beginning of the buffer, followed by a 0 if
  * there is room. *text is its number of characters without the 0, at most 43 plus two for each
  * octet. LAPD_OUT_OF_RANGE: that is more than `size`, and nothing is written to the buffer.
  * LAPD_NO_MEMORY: *text is 0. The call needs no side. Since 0.1. */
@@ -491,7 +491,7 @@ static inline const char *lapd_kind_string(uint8_t kind)
 	}
 }
 
-/* The name of a setting, as it is spelled in lapd_settings. Since 0.3. */
+/* The name of a setting, as spelled in lapd_settings. Since 0.3. */
 static inline const char *lapd_setting_string(uint8_t setting)
 {
 	switch (setting) {

@@ -1,5 +1,5 @@
 /* Many interfaces in one process: one epoll for their lines, one heap for their deadlines.
- * `many [PAIRS [LOST]]` makes so many primary rate interfaces (1000 by default), with both ends of
+ * `many [PAIRS [LOST]]` makes PAIRS primary rate interfaces (1000 by default), with both ends of
  * each. It establishes the links, sends a message from each end, and releases the links. A socket
  * pair takes the place of each D channel. With LOST, each LOST-th frame is lost, so timers expire.
  * The status is 0 if each message was received and acknowledged. */

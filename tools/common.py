@@ -71,7 +71,7 @@ def end_children():
 
 @contextlib.contextmanager
 def reporting(what):
-    """Reports while something goes on, every half minute, how long it has taken."""
+    """Reports how long something has taken, every half minute until it ends."""
     begun, ended = time.monotonic(), threading.Event()
 
     def report():
@@ -155,7 +155,7 @@ def rows_below(name):
 
 
 def made_of(name):
-    """What a crate is made of: the files and folders that ./lapd looks at, an empty line, the rows
+    """The parts of a crate: the files and folders that ./lapd looks at, an empty line, the rows
     of the crates up to this one and the sums of their files."""
     below = rows_below(name)
     rows = ["crates.txt", *(f"crates/{it}" for it in below), "", *below.values()]
@@ -281,7 +281,7 @@ def accepted(place):
 
 
 def connected(port, room=None):
-    """A connection to a network side, with a receive buffer of so many octets."""
+    """A connection to a network side, with a receive buffer of this number of octets."""
     peer = socket.socket()
     if room is not None:
         peer.setsockopt(socket.SOL_SOCKET, socket.SO_RCVBUF, room)

@@ -1,6 +1,6 @@
 /* An echo over a TCP connection of this machine, as plain as it can be: `echo MESSAGES ASKED
-   ANSWERED` sends so many octets so often, and waits each time for so many octets that a second
-   process answers. It prints how many nanoseconds each took. */
+   ANSWERED` sends ASKED octets MESSAGES times, and waits each time for ANSWERED octets of a second
+   process. It prints how many nanoseconds each took. */
 
 #include <arpa/inet.h>
 #include <err.h>

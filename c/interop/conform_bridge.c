@@ -1,4 +1,4 @@
-/* The end of another stack as `lapd conform` tests it, with SAPI 0 and a fixed TEI, behind two TCP
+/* The end of another stack as `lapd conform` tests it, with SAPI 0 and a fixed TEI, over two TCP
  * connections on this machine: the line, with the framing of `lapd net` and `lapd user`, and an
  * upper tester. A line of the latter is a request, and is answered by `done` (docs/CONFORM.md).
  * `osmocom_conform net|user PORT UPPER_PORT TEI K T203` listens at both ports, and ends when the

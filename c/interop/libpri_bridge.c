@@ -1,4 +1,4 @@
-/* libpri as one side of an interface, behind a TCP connection on this machine with the framing of
+/* libpri as one side of an interface, over a TCP connection on this machine with the framing of
  * `lapd net` and `lapd user`. `libpri_bridge basic|primary net|user listen|connect PORT [call]`
  * prints the events of libpri and refuses each call; with `call` it makes one after 2 seconds. It
  * ends when the other side hangs up. */

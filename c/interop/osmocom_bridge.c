@@ -1,4 +1,4 @@
-/* Osmocom's LAPD as one side of an interface with SAPI 0 and a fixed TEI, behind a TCP connection
+/* Osmocom's LAPD as one side of an interface with SAPI 0 and a fixed TEI, over a TCP connection
  * on this machine with the framing of `lapd net` and `lapd user`.
  * `osmocom_bridge net|user listen|connect PORT TEI [establish]` prints the primitives for its layer
  * 3, and sends each message back. It ends when the other side hangs up. */

@@ -123,7 +123,7 @@ def read_table(text):
 
 
 def room_of(entries, struct):
-    """Where the `reserved` of a struct begins and ends."""
+    """The begin and the end of the `reserved` of a struct."""
     found = re.match(r"at (\d+), size (\d+),", entries.get(f"field {struct}.reserved", ""))
     return (int(found[1]), int(found[1]) + int(found[2])) if found else (0, 0)
 

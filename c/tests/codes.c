@@ -277,7 +277,7 @@ static void a_link(lapd_side *side)
 	WANT(link.own_busy == 1 && link.peer_busy == 0 && link.rejecting == 0);
 }
 
-/* A pointer beside the size 0 may be NULL. */
+/* A pointer with the size 0 may be NULL. */
 static void nothing_at_null(lapd_side *side)
 {
 	const lapd_settings basic = LAPD_BASIC;

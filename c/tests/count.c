@@ -1,5 +1,5 @@
 /* The cost of calls: `count WHAT N` repeats WHAT N times with sides in memory, and
- * `count many PAIRS EACH N` sends N messages over so many pairs in turn. count.sh counts the
+ * `count many PAIRS EACH N` sends N messages over PAIRS pairs in turn. count.sh counts the
  * instructions of two runs. */
 #define _POSIX_C_SOURCE 200809L
 
@@ -122,7 +122,7 @@ static void poll(void)
 	WANT(length == 4 && answer[3] == 1);
 }
 
-/* Passes a frame to the network side, and fetches all results: so many. */
+/* Passes a frame to the network side, and fetches all results: their number. */
 static void pass_in(const uint8_t *frame, size_t length, unsigned results)
 {
 	uint8_t octets[LAPD_MOST_FRAME];

@@ -11,8 +11,8 @@
 #define MOST_PAIRS 1000
 #define BLOCK 7000 /* messages between two looks at the clock */
 
-/* Makes a pair and establishes its link; sends so many messages of 20 octets over it, before the
- * first frame is fetched, and fetches all. */
+/* Makes a pair and establishes its link; sends messages of 20 octets over it, before the first frame
+ * is fetched, and fetches all. */
 static void make_pair(size_t pair);
 static void send_messages(size_t pair, long each);
 
@@ -55,7 +55,7 @@ static double send_block(size_t pairs, long each)
 	return (nanoseconds() - begin) / BLOCK;
 }
 
-/* Makes the pairs and sends so many messages. Prints for each side the octets allocated and
+/* Makes the pairs and sends the messages. Prints for each side the octets allocated and
  * resident and the nanoseconds to make it, and the nanoseconds for a message in the fastest block. */
 static void count_many(size_t pairs, long each, long times)
 {

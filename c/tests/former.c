@@ -42,7 +42,7 @@ static struct {
 /* Sets all octets of a place, so that each one which a call writes is seen. */
 #define FILL(place) memset(&(place), 0xa5, sizeof(place))
 
-/* The octets behind a struct are as they were set. */
+/* The octets after a struct are as they were set. */
 static void is_kept(const uint8_t *behind)
 {
 	size_t at;

@@ -9,8 +9,8 @@ use clap::{Arg, ArgMatches, Command, Error};
 use std::alloc::{AllocError, Global};
 use strsim::osa_distance;
 
-/// The version of the program.
-pub const VERSION: &str = "0.1.0";
+/// The version of the program, the C library and the crates, as in CHANGELOG.md.
+pub const VERSION: &str = "0.3.0";
 
 /// The text for an unknown command, with the closest known command.
 pub(crate) fn unknown_command<'a>(
