@@ -1,5 +1,7 @@
 //! Frames in words, spelled in octets.
 
+ghost use Rattle.std.specs.Prelude.{◌≡◌, ◌≤◌, ◌%◌};
+
 use crate::stack::Stack;
 use crate::values::Values;
 use hex::FromHexError;
@@ -52,27 +54,14 @@ pub(crate) fn spelled(
     line: &Line<'_>,
 ) -> Result<Vec<u8>, AllocError> {
     let text = octets_of(alloc, line.text)?;
+    let info = text.as_slice();
     let mut octets = Vec::new(alloc);
     match pattern {
         Pattern::Command(kind, fields) | Pattern::Either(kind, fields) => {
-            put_frame(
-                &mut octets,
-                values,
-                Role::Command,
-                kind,
-                &fields,
-                text.as_slice(),
-            )?;
+            put_frame(&mut octets, values, Role::Command, kind, &fields, info)?;
         }
         Pattern::Response(kind, fields) => {
-            put_frame(
-                &mut octets,
-                values,
-                Role::Answer,
-                kind,
-                &fields,
-                text.as_slice(),
-            )?;
+            put_frame(&mut octets, values, Role::Answer, kind, &fields, info)?;
         }
         Pattern::Tei(kind, fields) => {
             let message = tei_message(values, kind, &fields);
@@ -80,7 +69,7 @@ pub(crate) fn spelled(
         }
         Pattern::Octets(role) => {
             octets.extend_from_slice(&values.address(role, 0, values.tei))?;
-            octets.extend_from_slice(text.as_slice())?;
+            octets.extend_from_slice(info)?;
         }
         Pattern::Raw => return Ok(text),
         Pattern::Nothing | Pattern::Acknowledgement(_) => {}
@@ -127,7 +116,9 @@ pub(crate) fn control_of(kind: Kind, ns: SequenceNumber, nr: SequenceNumber, bit
 }
 
 /// The sequence number of this value modulo 128.
-pub(crate) fn modulo_128(value: u16) -> SequenceNumber {
+pub(crate) fn modulo_128(value: u16) -> SequenceNumber
+    ensures { result ≡ value % 128 }
+{
     SequenceNumber::new((value % 128) as u8).unwrap()
 }
 
@@ -149,7 +140,9 @@ fn put_information(
     }
 }
 
-fn tei_message(values: &Values, kind: TeiKind, fields: &Fields) -> TeiMessage {
+fn tei_message(values: &Values, kind: TeiKind, fields: &Fields) -> TeiMessage
+    ensures { result.ai ≤ 127 }
+{
     TeiMessage {
         ri: values.field(fields.reference, 0),
         kind,
