@@ -10,6 +10,7 @@ use lapd_cli_console::{
 use lapd_cli_options::{Clock, NoInvocation, WordsFault};
 use lapd_cli_outputs::{NoFile, NoTaps, Protection};
 use lapd_cli_script::{KindReason, Reason, ScriptFault};
+use std::alloc::AllocError;
 use std::fmt::Display;
 use std::io::{self, ErrorKind};
 use std::process::ExitCode;
@@ -40,6 +41,12 @@ pub enum Stop {
     Violated,
     /// The capture, the ladder or the GSMTAP socket could not be opened.
     NoTaps(NoTaps),
+}
+
+impl From<AllocError> for Stop {
+    fn from(_error: AllocError) -> Stop {
+        Stop::Script(ScriptFault::Memory)
+    }
 }
 
 /// The facts that are known when a script has ended.
@@ -149,7 +156,9 @@ pub fn print_violation(rt: &HostRuntime) -> ExitCode {
 fn print_refusal(rt: &HostRuntime, ending: &Ending<'_>) {
     if ending.strict && !ending.refusal.is_empty() {
         let _ = eprintln!(rt; "a line of the script was refused");
-        let _ = eprintln!(rt; "first refusal: {}", text_of(ending.refusal));
+        // A line that is not UTF-8 is not printed.
+        let refusal = str::from_utf8(ending.refusal).unwrap_or("");
+        let _ = eprintln!(rt; "first refusal: {refusal}");
     }
 }
 
@@ -192,7 +201,13 @@ fn print_no_taps(rt: &HostRuntime, ending: &Ending<'_>, taps: &NoTaps) -> ExitCo
         NoTaps::Ladder(fault) => {
             return print_no_output(rt, "ladder", ladder.unwrap_or(""), fault);
         }
-        NoTaps::SameFile => return print_same_file(rt, ladder.unwrap_or("")),
+        NoTaps::SameFile => {
+            let file = Escaped(ladder.unwrap_or(""));
+            let _ = eprintln!(rt;
+                "error: --pcap and --ladder name the same file {file}; name two files"
+            );
+            return ExitCode::from(COMMAND_LINE);
+        }
         NoTaps::Socket(error) => print_unreachable(rt, "send to", gsmtap.unwrap_or(""), error),
         NoTaps::Memory => return print_memory(rt),
     }
@@ -208,13 +223,6 @@ fn print_no_output(rt: &HostRuntime, option: &str, file: &str, fault: &NoFile) -
         }
         NoFile::Protected(protection) => print_protected(rt, option, file, *protection),
     }
-}
-
-// Reports that the capture and the ladder have the same file.
-fn print_same_file(rt: &HostRuntime, file: &str) -> ExitCode {
-    let file = Escaped(file);
-    let _ = eprintln!(rt; "error: --pcap and --ladder name the same file {file}; name two files");
-    ExitCode::from(COMMAND_LINE)
 }
 
 /// Reports that the file of this option must not be overwritten, and what to do.
@@ -241,11 +249,6 @@ pub fn print_protected(
         }
     };
     ExitCode::from(COMMAND_LINE)
-}
-
-// A printed line as text; empty if it is not UTF-8.
-fn text_of(line: &[u8]) -> &str {
-    str::from_utf8(line).unwrap_or("")
 }
 
 /// Reports that an allocation failed before the script began.

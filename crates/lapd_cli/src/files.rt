@@ -10,7 +10,7 @@ use lapd_cli_options::{DecodeOptions, Invocation, Job, PrintedTime};
 use lapd_cli_script::{KindReason, Reason, first_line, is_passed_over};
 use lapd_log::is_script_line;
 use std::fs::File;
-use std::io::{ErrorKind, Read};
+use std::io::Read;
 use std::process::ExitCode;
 
 /// The forms of files that can be read.
@@ -140,8 +140,8 @@ fn read_text<R: Read + Drop>(
     let mut front = Vec::new(rt.alloc());
     match take_first_line(&mut source, &mut front) {
         Ok(()) => {}
-        Err(FrontFault::Device(kind)) => return print_no_file(rt, file, &KindReason(kind)),
-        Err(FrontFault::Memory) => return print_memory(rt),
+        Err(ReadFault::Device(kind)) => return print_no_file(rt, file, &KindReason(kind)),
+        Err(_) => return print_memory(rt),
     }
     let is_script = !options.loose && is_script(rt, front.as_slice());
     let source = front.as_slice().chain(source);
@@ -174,61 +174,47 @@ pub fn print_no_log(rt: &HostRuntime, file: &str, kind: &str) -> ExitCode {
     ExitCode::from(COMMAND_LINE)
 }
 
-// Why the first line of a text was not read.
-enum FrontFault {
-    Device(ErrorKind),
-    Memory,
-}
-
 // Reads octets of a text until they have a line that a script does not skip, at most a number of
 // octets.
-fn take_first_line<R: Read>(source: &mut R, front: &mut Vec<u8>) -> Result<(), FrontFault> {
+fn take_first_line<R: Read>(source: &mut R, front: &mut Vec<u8>) -> Result<(), ReadFault> {
     let mut part = [0; PART];
     for _read in 0..MOST_FRONT {
-        if has_first_line(front.as_slice()) || front.len() >= MOST_FRONT {
+        if first_unskipped(front.as_slice()).1 || front.len() >= MOST_FRONT {
             return Ok(());
         }
         let count = match source.read(&mut part) {
             Ok(0) => return Ok(()),
             Ok(count) => count,
-            Err(error) => return Err(FrontFault::Device(error.kind())),
+            Err(error) => return Err(ReadFault::Device(error.kind())),
         };
         if front.extend_from_slice(&part[..count]).is_err() {
-            return Err(FrontFault::Memory);
+            return Err(ReadFault::Memory);
         }
     }
     Ok(())
 }
 
-// Whether a text has a whole line that a script does not skip.
-fn has_first_line(text: &[u8]) -> bool {
+// The first line of a text that a script does not skip, and whether it has its line feed. The last
+// line if a script skips all.
+fn first_unskipped<'a>(text: &'a [u8]) -> (&'a [u8], bool) {
     let mut rest = text;
     for _octet in 0..text.len() {
         let Some((line, behind)) = first_line(rest) else {
-            return false;
+            return (rest, false);
         };
         if !is_passed_over(line) {
-            return true;
+            return (line, true);
         }
         rest = behind;
     }
-    false
+    (rest, false)
 }
 
 // Whether a text begins as a script: its first line that a script does not skip is a line of one, or
 // there is no such line.
 fn is_script(rt: &HostRuntime, text: &[u8]) -> bool {
-    let mut rest = text;
-    for _octet in 0..text.len() {
-        let Some((line, behind)) = first_line(rest) else {
-            return is_passed_over(rest) || is_script_line(rt.alloc(), rest);
-        };
-        if !is_passed_over(line) {
-            return is_script_line(rt.alloc(), line);
-        }
-        rest = behind;
-    }
-    true
+    let (line, _has_feed) = first_unskipped(text);
+    is_passed_over(line) || is_script_line(rt.alloc(), line)
 }
 
 // The chosen job with the lines of a log.

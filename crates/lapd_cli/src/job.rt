@@ -22,6 +22,7 @@ use lapd_cli_side_lines::LineStyle;
 use std::alloc::{AllocError, Global};
 use std::env;
 use std::io::{IsTerminal, Read, Write};
+use std::net::TcpStream;
 
 /// The seed of reference numbers with the script's clock, if `--seed` is absent.
 const SCRIPT_SEED: u64 = 921;
@@ -110,18 +111,19 @@ fn run_side<R: Read, W: Write>(
     script: &mut R,
     out: &mut W,
 ) -> Result<(), Stop> {
-    let Ok(address) = with_host(rt.alloc(), side, chosen.address.unwrap_or("")) else {
-        return Err(Stop::Script(ScriptFault::Memory));
-    };
+    let address = with_host(rt.alloc(), side, chosen.address.unwrap_or(""))?;
     let setup = SideSetup {
         interface,
         address: address.as_str(),
-        lines: style_of_lines(chosen.json),
+        lines: if chosen.json {
+            LineStyle::Json
+        } else {
+            LineStyle::Text
+        },
     };
-    match (&chosen.clock, side) {
-        (Clock::Real(options), _) => run_live(rt, side, &setup, options, script, out),
-        (Clock::Script, Side::Network) => run_net(rt, script, out, &setup),
-        (Clock::Script, Side::User) => run_user(rt, script, out, &setup),
+    match &chosen.clock {
+        Clock::Real(options) => run_live(rt, side, &setup, options, script, out),
+        Clock::Script => run_connected(rt, side, script, out, &setup),
     }
 }
 
@@ -134,15 +136,6 @@ pub fn with_host(alloc: Global, side: Side, address: &str) -> Result<String, All
         (true, Side::User) => "127.0.0.1",
     };
     format!(in alloc; "{host}{address}")
-}
-
-// The style of the lines of `net` and `user`.
-fn style_of_lines(json: bool) -> LineStyle {
-    if json {
-        LineStyle::Json
-    } else {
-        LineStyle::Text
-    }
 }
 
 // Executes the script of this end of a link.
@@ -161,7 +154,7 @@ fn run_answer<R: Read, W: Write>(
     answer(rt.alloc(), script, out, side, sapi, tei, params)
 }
 
-// Executes a script of lines with octets.
+// Executes a script of lines with octets. Loose lines are read as a log.
 fn run_decode<R: Read, W: Write>(
     rt: &HostRuntime,
     chosen: &Invocation<'_>,
@@ -184,7 +177,11 @@ fn run_decode<R: Read, W: Write>(
             keeps_going: options.keep_going,
             follow: follow_of(options),
         };
-        return run_any_lines(rt, chosen, script, out, how, options);
+        return if options.loose {
+            run_log(rt, chosen, script, out, how, options)
+        } else {
+            run_lines(rt, script, out, how, chosen.strict)
+        };
     }
     let ended = if options.keep_going {
         decode_good_lines(rt.alloc(), script, out, frames.style, rt.stderr())
@@ -196,23 +193,7 @@ fn run_decode<R: Read, W: Write>(
     ended.map_err(Stop::Script)
 }
 
-// Executes a script of lines with octets in this form. Loose lines are read as a log.
-fn run_any_lines<R: Read, W: Write>(
-    rt: &HostRuntime,
-    chosen: &Invocation<'_>,
-    script: &mut R,
-    out: &mut W,
-    how: LinesStyle,
-    options: DecodeOptions,
-) -> Result<(), Stop> {
-    match how.form {
-        LineForm::Strict => run_lines(rt, script, out, how, chosen.strict),
-        LineForm::Loose(_) | LineForm::Timed(_) => run_log(rt, chosen, script, out, how, options),
-    }
-}
-
-/// Executes a script of lines with octets, if they are loose, not all are printed or links are
-/// followed.
+/// Executes a script of lines with octets, if not all are printed or links are followed.
 ///
 /// # Errors
 ///
@@ -340,56 +321,51 @@ fn run_loop<R: Read, W: Write>(
     ended.map_err(Stop::Script)
 }
 
-// Executes the script of the network side, whose user side makes the first connection to its
-// address.
-fn run_net<R: Read, W: Write>(
+// Executes the script of a side with the script's clock, over one connection. The network side
+// accepts the first connection to its address, and the user side connects to its address.
+fn run_connected<R: Read, W: Write>(
     rt: &HostRuntime,
+    side: Side,
     script: &mut R,
     out: &mut W,
     setup: &SideSetup<'_>,
 ) -> Result<(), Stop> {
     let notes = Notes::new(rt);
-    let stream = connection::accepted(rt, &notes, setup.address).map_err(Stop::NoConnection)?;
-    let port = Port::new(FromRead::new(&stream), FromWrite::new(&stream));
-    let SideRun { ended, .. } = net(
-        rt.alloc(),
-        script,
-        out,
-        port,
-        setup.lines,
-        config_of(setup.interface, setup.interface.seed.unwrap_or(SCRIPT_SEED)),
-        setup.interface.teis.as_slice(),
-    );
-    connection::close(rt, &notes, stream, is_port_fault(&ended));
+    let connected = match side {
+        Side::Network => connection::accepted(rt, &notes, setup.address),
+        Side::User => connection::made(rt, &notes, setup.address),
+    };
+    let stream = connected.map_err(Stop::NoConnection)?;
+    let ended = run_over(rt.alloc(), side, script, out, setup, &stream);
+    let is_port_fault = matches!(&ended, Err(ScriptFault::Port(_)));
+    connection::close(rt, &notes, stream, is_port_fault);
     ended.map_err(Stop::Script)
 }
 
-// Executes the script of the user side, which connects to the network side's address.
-fn run_user<R: Read, W: Write>(
-    rt: &HostRuntime,
+// Executes the script of a side with the script's clock, over this connection.
+fn run_over<R: Read, W: Write>(
+    alloc: Global,
+    side: Side,
     script: &mut R,
     out: &mut W,
     setup: &SideSetup<'_>,
-) -> Result<(), Stop> {
-    let notes = Notes::new(rt);
-    let stream = connection::made(rt, &notes, setup.address).map_err(Stop::NoConnection)?;
-    let port = Port::new(FromRead::new(&stream), FromWrite::new(&stream));
-    let SideRun { ended, .. } = user(
-        rt.alloc(),
-        script,
-        out,
-        port,
-        setup.lines,
-        config_of(setup.interface, setup.interface.seed.unwrap_or(SCRIPT_SEED)),
-        setup.interface.fixed(),
-    );
-    connection::close(rt, &notes, stream, is_port_fault(&ended));
-    ended.map_err(Stop::Script)
-}
-
-// Whether a fault of the connection ended a script.
-fn is_port_fault(ended: &Result<(), ScriptFault>) -> bool {
-    matches!(ended, Err(ScriptFault::Port(_)))
+    stream: &TcpStream,
+) -> Result<(), ScriptFault> {
+    let interface = setup.interface;
+    let port = Port::new(FromRead::new(stream), FromWrite::new(stream));
+    let config = config_of(interface, interface.seed.unwrap_or(SCRIPT_SEED));
+    match side {
+        Side::Network => {
+            let teis = interface.teis.as_slice();
+            let SideRun { ended, .. } = net(alloc, script, out, port, setup.lines, config, teis);
+            ended
+        }
+        Side::User => {
+            let fixed = interface.fixed();
+            let SideRun { ended, .. } = user(alloc, script, out, port, setup.lines, config, fixed);
+            ended
+        }
+    }
 }
 
 /// The configuration of a side of this interface, with this seed of its reference numbers.

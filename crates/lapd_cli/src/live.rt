@@ -45,9 +45,8 @@ pub fn run_live<R: Read, W: Write>(
         lines: setup.lines,
     };
     let printer = Printer::new(rt.alloc(), out, style);
-    let Ok((made, acts)) = made_side(rt, side, config, setup.interface) else {
-        return Err(Stop::Script(ScriptFault::Memory));
-    };
+    let acts = Acts::new(rt.alloc())?;
+    let made = made_side(rt, side, config, setup.interface)?;
     let most = frames_of_step(options.terminals);
     let mut live = LiveSide::new(rt.alloc(), made, acts, line, printer, most);
     match clear(&mut live, options.clear) {
@@ -185,17 +184,16 @@ fn stop_of(stop: LiveStop) -> Stop {
     }
 }
 
-/// A side of this interface, and room for the output of a call.
+/// A side of this interface.
 fn made_side(
     rt: &HostRuntime,
     side: Side,
     config: Config,
     interface: &Interface,
-) -> Result<(EitherSide, Acts), AllocError> {
-    let acts = Acts::new(rt.alloc())?;
+) -> Result<EitherSide, AllocError> {
     match side {
-        Side::Network => Ok((network_side(rt, config, interface)?, acts)),
-        Side::User => Ok((user_side(rt, config, interface)?, acts)),
+        Side::Network => network_side(rt, config, interface),
+        Side::User => user_side(rt, config, interface),
     }
 }
 

@@ -9,7 +9,7 @@ use std::os::fd::RawFd;
 const STANDARD_INPUT: RawFd = 0;
 
 /// The state of standard input.
-#[derive(Clone, Copy, PartialEq, Eq)]
+#[derive(Clone, Copy)]
 pub enum Input {
     /// It can always be read, because it is a regular file.
     Free,
@@ -54,7 +54,7 @@ impl Input {
     ///
     /// The system's error.
     pub fn request(&mut self, poll: &Poll, token: Token) -> io::Result<()> {
-        if *self == Input::Read {
+        if matches!(self, Input::Read) {
             let mut input = SourceFd(&STANDARD_INPUT);
             let registry = poll.registry();
             registry.reregister(&mut input, token, Interest::READABLE)?;
@@ -70,7 +70,7 @@ impl Input {
 
     /// Records that the caller will read once.
     pub fn pass_on(&mut self) {
-        if *self == Input::Ready {
+        if matches!(self, Input::Ready) {
             *self = Input::Read;
         }
     }

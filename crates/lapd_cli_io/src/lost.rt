@@ -3,7 +3,7 @@ use lapd_port::PortFault;
 use std::fmt;
 
 /// Why a connection is lost.
-#[derive(Clone, Copy, PartialEq, Eq)]
+#[derive(Clone, Copy)]
 pub enum Lost {
     /// A read failed with this fault.
     Port(PortFault),
