@@ -10,6 +10,7 @@ use Rattle.jiff_tz.specs.TzifReader.{read_tzif}
 use Rattle.lapd_zone.specs.declared.zone.Zone.{Zone}
 use Rattle.lapd_zone.specs.declared.zone.Zone.TheVariants.{Utc, Table, Rule}
 
+-- what contracts see of a zone: its kind, with what jiff_tz read
 abbrev pub ZoneTable : Type 0
 ZoneTable = Zone
 

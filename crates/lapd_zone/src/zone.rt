@@ -27,7 +27,7 @@ pub enum Zone {
 }
 
 impl Zone {
-    /// UTC.
+    /// UTC. It allocates nothing, though the other zones do.
     pub fn utc(_alloc: Global) -> Zone
         ensures { result ≡ utc_table }
     {
