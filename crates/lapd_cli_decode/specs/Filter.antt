@@ -1,7 +1,7 @@
 -- Which frames are printed, and how many.
 use Rattle.std.specs.Prelude.{ℕ, ◌&&◌, ◌||◌, nat_le, not, Bool, true, false, List, Option, None, Some}
-use Rattle.lapd_cli_values.specs.declared.Filter.{Filter}
-use Rattle.lapd_cli_values.specs.Filter.{is_requested, takes}
+use Rattle.lapd_filter.specs.declared.Filter.{Filter}
+use Rattle.lapd_filter.specs.Filter.{is_requested, takes}
 use Rattle.lapd_follow.specs.declared.remarks.Remarks.{Remarks}
 use Rattle.lapd_cli_decode.specs.CallFilter.{call_in}
 use Rattle.lapd_cli_decode.specs.Color.{is_violation}

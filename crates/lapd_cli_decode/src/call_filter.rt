@@ -1,7 +1,7 @@
 //! The call reference in a frame.
 
 ghost use Rattle.std.specs.Prelude.{◌≡◌, Some};
-ghost use Rattle.lapd_cli_values.specs.Filter.{is_requested};
+ghost use Rattle.lapd_filter.specs.Filter.{is_requested};
 ghost use Rattle.lapd_cli_decode.specs.CallFilter.{call_by_control, call_by_sapi, call_in, call_of, first_of, reference_of, value_of};
 
 use lapd_cli_render::{CallMessage, CallReference};

@@ -7,7 +7,7 @@ use crate::call_filter::is_of_call;
 use crate::frame_time::FrameTime;
 use crate::style::Style;
 use lapd_cli_ladder::LadderStyle;
-use lapd_cli_values::Filter;
+use lapd_filter::Filter;
 use lapd_follow::Remarks;
 
 /// The layout of the output.

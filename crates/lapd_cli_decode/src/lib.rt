@@ -52,7 +52,7 @@ pub use joined_dumps::JoinedDumps;
 pub use lapd_capture::{CaptureFault, CaptureReader, FILE_HEADER, PacketFault, ReadFault};
 pub use lapd_cli_ladder::{PICTURE_BEGIN, PICTURE_END};
 pub use lapd_cli_page::{PAGE_BEGIN, PAGE_END};
-pub use lapd_cli_values::Filter;
+pub use lapd_filter::Filter;
 pub use lapd_frame::Side;
 pub use lapd_zone::Zone;
 pub use laws::{both_read_alike, sender_is_found};

@@ -1,5 +1,5 @@
 ghost use Rattle.std.specs.Prelude.{◌≡◌};
-ghost use Rattle.lapd_cli_values.specs.Filter.{is_kind_requested, is_poll, is_requested, sapi_in, takes, tei_in};
+ghost use Rattle.lapd_filter.specs.Filter.{is_kind_requested, is_poll, is_requested, sapi_in, takes, tei_in};
 
 /// Which frames are printed, by their address (Q.921 3.3) and control field (3.4).
 #[derive(Clone, Copy, Debug, PartialEq, Eq)]

@@ -1,6 +1,6 @@
 -- Which frames are printed, by their octets.
 use Rattle.std.specs.Prelude.{ℕ, ◌/◌, ◌%◌, ◌==◌, ◌&&◌, ◌||◌, not, Bool, true, false, if◌then◌else◌, List, Option, None, Some, slice_get, option_map}
-use Rattle.lapd_cli_values.specs.declared.filter.Filter.{Filter}
+use Rattle.lapd_filter.specs.declared.filter.Filter.{Filter}
 
 -- no number is requested, or exactly this one was found
 abbrev pub is_requested : Option ℕ → Option ℕ → Bool
