@@ -2,7 +2,7 @@
 
 use crate::notes::Notes;
 use crate::record_file::{Place, RecordFile};
-use lapd_cli_decode::{FrameDrawer, Missing, ladder_head};
+use lapd_cli_frames::{FrameDrawer, Missing, ladder_head};
 use lapd_frame::Side;
 use std::alloc::AllocError;
 use std::fs::File;
