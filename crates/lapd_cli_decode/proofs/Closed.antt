@@ -6,7 +6,7 @@ use Rattle.lapd_cli_script.specs.Script.{EndsAs, lines_of, state_after}
 use Rattle.lapd_cli_script.specs.declared.script.ScriptFault.{ScriptFault}
 use Rattle.lapd_cli_script.specs.declared.script.ScriptFault.TheVariants.{BadLine, Device, Memory, Port}
 use Rattle.lapd_cli_decode.specs.Captured.{CaptureCloses, CaptureEnds, ItemsEnd, Place}
-use Rattle.lapd_cli_decode.specs.Frames.{ClosingEnds, Printing, closing_text, is_violated_by}
+use Rattle.lapd_cli_frames.specs.Frames.{ClosingEnds, Printing, closing_text, is_violated_by}
 use Rattle.lapd_cli_decode.specs.PrintedLines.{LinesEnd, PrintingLines, print_step}
 use Rattle.lapd_cli_decode.specs.declared.capture_lines.CaptureStyle.{CaptureStyle}
 use Rattle.lapd_cli_decode.specs.declared.capture_lines.CaptureStop.{CaptureStop}

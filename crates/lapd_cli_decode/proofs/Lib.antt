@@ -1,6 +1,4 @@
-pub mod ByKind
 pub mod Closed
-pub mod Colored
 pub mod Lines
 pub mod LiveLadder
 pub mod LooseLine

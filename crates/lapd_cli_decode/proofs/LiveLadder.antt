@@ -17,11 +17,12 @@ use Rattle.lapd_cli_render.specs.declared.Packet.{Packet}
 use Rattle.lapd_cli_decode.specs.declared.capture_lines.CaptureStop.{CaptureStop}
 use Rattle.lapd_cli_decode.specs.declared.capture_lines.CaptureStop.TheVariants.{Capture as AtFault, Packet as AtPacket, Input, Device, Memory}
 use Rattle.lapd_cli_decode.specs.declared.capture_lines.Seen.{Seen}
-use Rattle.lapd_cli_decode.specs.declared.frame_printer.Origin.TheVariants.{Capture}
+use Rattle.lapd_cli_frames.specs.declared.frame_printer.Origin.TheVariants.{Capture}
 use Rattle.lapd_cli_decode.specs.Captured.{CaptureEnds, IsFinished, Place, Prints, after_item, begins_at, is_user, item_text}
-use Rattle.lapd_cli_decode.specs.Frames.{Printing, after_frame, closing_text, followed_packet, frame_text, is_complete}
-use Rattle.lapd_cli_decode.specs.LiveLadder.{AreCaptured, DecodesAs, PrintsOnly, captured_ladder, ladder_style, microseconds, new_ladder, rung_of, rungs_of}
-use Rattle.lapd_cli_decode.specs.Time.{either}
+use Rattle.lapd_cli_frames.specs.Frames.{Printing, after_frame, closing_text, followed_packet, frame_text, is_complete}
+use Rattle.lapd_cli_frames.specs.LiveLadder.{ladder_style, microseconds, new_ladder, rung_of, rungs_of}
+use Rattle.lapd_cli_decode.specs.DecodedLadder.{AreCaptured, DecodesAs, PrintsOnly, captured_ladder}
+use Rattle.lapd_cli_frames.specs.Time.{either}
 use Rattle.lapd_zone.specs.Zone.{utc_table}
 
 -- what is known of the frames so far; whether one is certainly the user side's is of no effect

@@ -16,7 +16,7 @@ use Rattle.lapd_cli_decode.specs.declared.capture_lines.CaptureStyle.{CaptureSty
 use Rattle.lapd_cli_decode.specs.declared.capture_lines.CaptureStop.{CaptureStop}
 use Rattle.lapd_cli_decode.specs.declared.capture_lines.CaptureStop.TheVariants.{Capture, Packet, Input, Device, Memory}
 use Rattle.lapd_cli_decode.specs.Captured.{ItemsEnd, Place, PrintsTo, StepsFrom, TakesStep, after_found, after_item, found_text, item_text, packet_fault, place_of}
-use Rattle.lapd_cli_decode.specs.Frames.{Printing, after_missing, is_complete, missing_text}
+use Rattle.lapd_cli_frames.specs.Frames.{Printing, after_missing, is_complete, missing_text}
 
 -- bytes that are kept and then grow
 pub Appends-after : (a b c : Option (List ℕ)) (bs : List ℕ) → Keeps a b → Appends b c bs

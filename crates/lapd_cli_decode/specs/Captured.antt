@@ -14,11 +14,11 @@ use Rattle.lapd_cli_decode.specs.declared.capture_lines.CaptureStop.{CaptureStop
 use Rattle.lapd_cli_decode.specs.declared.capture_lines.CaptureStop.TheVariants.{Capture, Packet, Input, Device, Memory}
 use Rattle.lapd_cli_decode.specs.declared.capture_lines.CaptureStyle.{CaptureStyle}
 use Rattle.lapd_cli_decode.specs.declared.capture_lines.Seen.{Seen}
-use Rattle.lapd_cli_decode.specs.declared.frame_printer.Follow.{Follow}
-use Rattle.lapd_cli_decode.specs.declared.frame_printer.Origin.TheVariants.{Capture as FromCapture}
+use Rattle.lapd_cli_frames.specs.declared.frame_printer.Follow.{Follow}
+use Rattle.lapd_cli_frames.specs.declared.frame_printer.Origin.TheVariants.{Capture as FromCapture}
 use Rattle.lapd_cli_render.specs.declared.Packet.{Packet as JsonPacket}
-use Rattle.lapd_cli_decode.specs.Frames.{Printing, after_frame, after_missing, closing_text, frame_text, in_zone, is_complete, is_violated_by, missing_text, new_printing}
-use Rattle.lapd_cli_decode.specs.Senders.{named_or_by_kind}
+use Rattle.lapd_cli_frames.specs.Frames.{Printing, after_frame, after_missing, closing_text, frame_text, in_zone, is_complete, is_violated_by, missing_text, new_printing}
+use Rattle.lapd_cli_frames.specs.Senders.{named_or_by_kind}
 use Rattle.lapd_zone.specs.Zone.{ZoneTable}
 
 -- ---- A frame that was found; `behind` is the capture after it.

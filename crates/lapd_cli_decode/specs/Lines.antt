@@ -5,10 +5,10 @@ use Rattle.lapd_frame.specs.declared.Side.{Side}
 use Rattle.lapd_frame.specs.declared.Side.TheVariants.{Network, User}
 use Rattle.lapd_cli_script.specs.Line.{octets_behind, text_line, words_of}
 use Rattle.lapd_cli_script.specs.Script.{LineOutcome}
-use Rattle.lapd_cli_decode.specs.declared.style.Style.{Style}
-use Rattle.lapd_cli_decode.specs.declared.style.Style.TheVariants.{Plain}
+use Rattle.lapd_cli_frames.specs.declared.style.Style.{Style}
+use Rattle.lapd_cli_frames.specs.declared.style.Style.TheVariants.{Plain}
 use Rattle.lapd_cli_decode.specs.Sent.{sent_by}
-use Rattle.lapd_cli_decode.specs.Style.{styled_text}
+use Rattle.lapd_cli_frames.specs.Style.{styled_text}
 
 -- ---- A strict line: `SIDE HEX`, single spaces between its words.
 

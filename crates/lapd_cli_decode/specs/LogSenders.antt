@@ -4,7 +4,7 @@ use Rattle.lapd_frame.specs.declared.Side.{Side}
 use Rattle.lapd_field.specs.Address.{other_side}
 use Rattle.lapd_cli_decode.specs.declared.line_sender.LineSender.{LineSender}
 use Rattle.lapd_cli_decode.specs.declared.line_sender.LineSender.TheVariants.{Named, Printer, Peer, Unnamed, Continued}
-use Rattle.lapd_cli_decode.specs.Senders.{named_or_by_kind, sender_by_kind}
+use Rattle.lapd_cli_frames.specs.Senders.{named_or_by_kind, sender_by_kind}
 
 -- the first side, or else the second
 abbrev pub or_side : Option Side → Option Side → Option Side

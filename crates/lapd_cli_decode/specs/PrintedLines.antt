@@ -6,12 +6,12 @@ use Rattle.lapd_cli_script.specs.Script.{LineOutcome, PrintsFront, bad_line, out
 use Rattle.lapd_cli_script.specs.declared.script.ScriptFault.{ScriptFault}
 use Rattle.lapd_cli_script.specs.declared.script.ScriptFault.TheVariants.{BadLine, Device, Memory, Port}
 use Rattle.lapd_cli_decode.specs.declared.printed_lines.LinesStyle.{LinesStyle}
-use Rattle.lapd_cli_decode.specs.declared.frame_printer.Origin.TheVariants.{Script}
+use Rattle.lapd_cli_frames.specs.declared.frame_printer.Origin.TheVariants.{Script}
 use Rattle.lapd_cli_decode.specs.declared.line_form.LineForm.{LineForm}
 use Rattle.lapd_cli_decode.specs.declared.line_form.LineForm.TheVariants.{Strict, Loose, Timed}
 use Rattle.lapd_cli_decode.specs.declared.line_sender.LineSender.{LineSender}
 use Rattle.lapd_cli_decode.specs.declared.line_sender.LineSender.TheVariants.{Named, Printer, Peer, Unnamed, Continued}
-use Rattle.lapd_cli_decode.specs.Frames.{Printing, after_frame, closing_text, frame_text, is_complete, is_violated_by, line_packet, new_printing}
+use Rattle.lapd_cli_frames.specs.Frames.{Printing, after_frame, closing_text, frame_text, is_complete, is_violated_by, line_packet, new_printing}
 use Rattle.lapd_cli_decode.specs.Lines.{sent_in}
 use Rattle.lapd_cli_decode.specs.LogSenders.{line_sender, printer_after}
 use Rattle.lapd_cli_decode.specs.Loose.{loose_line}

@@ -5,16 +5,12 @@ ghost use Rattle.std.specs.Io.KnownBytes.{Appends, Keeps};
 ghost use Rattle.lapd_capture.specs.Packet.{IsWithin};
 ghost use Rattle.lapd_capture.specs.Reader.{reading_of, unread};
 ghost use Rattle.lapd_cli_decode.specs.Captured.{CaptureCloses, CaptureEnds, IsOtherStop, ItemsEnd, StepsFrom, after_found, after_item, begins_at, begins_in, found_text, is_user, item_text, named_sender, place_of, sender_in, with_sender};
-ghost use Rattle.lapd_cli_decode.specs.Frames.{after_missing, missing_text};
+ghost use Rattle.lapd_cli_frames.specs.Frames.{after_missing, missing_text};
 
-use crate::frame_printer::{Follow, FramePrinter, Origin};
-use crate::frame_style::FrameStyle;
-use crate::senders::named_or_by_kind;
 use lapd_capture::{CaptureFault, CaptureItem, CaptureReader, PacketFault, ReadFault, Span};
-use lapd_cli_render::Packet;
+use lapd_cli_frames::{Follow, FramePrinter, FrameStyle, Origin, Packet, Zone, named_or_by_kind};
 use lapd_cli_script::{LineFault, ScriptFault};
 use lapd_frame::Side;
-use lapd_zone::Zone;
 use std::alloc::Global;
 use std::io::{ErrorKind, Read, Write};
 use thiserror::Error;

@@ -1,5 +1,5 @@
-//! The command `decode`: octets as trace lines or as JSON objects, from lines of several forms and
-//! from captures.
+//! The command `decode`: it reads frames from lines of several forms and from captures, and prints
+//! them with `lapd_cli_frames`.
 //!
 //! [`decode`] executes a script of strict lines, and prints the trace line of each frame.
 //! [`decode_lines`] does the same in any [`Style`]. [`decode_good_lines`] reports and skips invalid
@@ -9,57 +9,32 @@
 //! `lapd_follow` are printed behind each frame, and a table of each link at the end. With
 //! [`Layout::Drawn`] the frames are drawn as a ladder, as a picture between [`PICTURE_BEGIN`] and
 //! [`PICTURE_END`], as a page between [`PAGE_BEGIN`] and [`PAGE_END`], or as the records of a pcap
-//! file. A [`FrameDrawer`] draws the same ladder of the frames of a line, when they are sent or
-//! received.
+//! file.
 #![tactic(auto)]
 
-mod any_sapi;
-mod call_filter;
 mod capture_lines;
-mod color;
-mod drawn;
 mod dump_line;
-mod frame_printer;
-mod frame_style;
-mod frame_time;
 mod joined_dumps;
-mod laws;
 mod line_decoder;
 mod line_form;
 mod line_sender;
-mod live_ladder;
 mod live_laws;
 mod loose;
-mod missing;
 mod printed_lines;
-mod record;
-mod remarked;
-mod senders;
-mod shown;
-mod shown_object;
-mod shown_text;
-mod style;
-mod tables;
 mod timed;
 
 pub use capture_lines::{
     CaptureStop, CaptureStyle, Seen, decode_capture, decode_capture_in, follow_capture,
 };
-pub use frame_printer::Follow;
-pub use frame_style::{Drawing, FrameStyle, Layout};
-pub use frame_time::FrameTime;
 pub use joined_dumps::JoinedDumps;
 pub use lapd_capture::{CaptureFault, CaptureReader, FILE_HEADER, PacketFault, ReadFault};
+pub use lapd_cli_frames::{
+    Drawing, Filter, Follow, FrameDrawer, FrameStyle, FrameTime, Layout, Missing, Side, Style,
+    Zone, both_read_alike, ladder_head, sender_is_found,
+};
 pub use lapd_cli_ladder::{PICTURE_BEGIN, PICTURE_END};
 pub use lapd_cli_page::{PAGE_BEGIN, PAGE_END};
-pub use lapd_cli_values::Filter;
-pub use lapd_frame::Side;
-pub use lapd_zone::Zone;
-pub use laws::{both_read_alike, sender_is_found};
 pub use line_decoder::{decode, decode_good_lines, decode_lines};
 pub use line_form::LineForm;
-pub use live_ladder::{FrameDrawer, ladder_head};
 pub use live_laws::ladder_is_decoded;
-pub use missing::Missing;
 pub use printed_lines::{LinesStyle, print_lines};
-pub use style::Style;

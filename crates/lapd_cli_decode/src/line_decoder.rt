@@ -6,7 +6,7 @@ ghost use Rattle.lapd_cli_decode.specs.Lines.{decode_step_skipping, line_step, t
 ghost use Rattle.lapd_cli_decode.specs.Decoder.{decoding_of};
 
 use crate::line_form::strict_line;
-use crate::style::Style;
+use lapd_cli_frames::Style;
 use lapd_cli_script::{Command, LineFault, ScriptFault, put_line, walk};
 use std::alloc::Global;
 use std::io::{Read, Write};

@@ -4,7 +4,7 @@ ghost use Rattle.std.specs.Prelude.{◌≡◌, option_map};
 ghost use Rattle.lapd_field.specs.Address.{other_side};
 ghost use Rattle.lapd_cli_decode.specs.LogSenders.{line_sender, or_side, printer_after};
 
-use crate::senders::{named_or_by_kind, sender_by_kind};
+use lapd_cli_frames::{named_or_by_kind, sender_by_kind};
 use lapd_frame::Side;
 
 /// The sender of a loose line's octets, as far as the line says.

@@ -5,7 +5,8 @@ ghost use Rattle.lapd_frame.specs.declared.Side.{Side};
 ghost use Rattle.lapd_capture.specs.ReadBack.{LineFrame, records_of};
 ghost use Rattle.lapd_capture.specs.Reading.{Reading, opened};
 ghost use Rattle.lapd_capture.specs.Written.{file_octets};
-ghost use Rattle.lapd_cli_decode.specs.LiveLadder.{AreCaptured, DecodesAs, captured_ladder, new_ladder, rungs_of};
+ghost use Rattle.lapd_cli_frames.specs.LiveLadder.{new_ladder, rungs_of};
+ghost use Rattle.lapd_cli_decode.specs.DecodedLadder.{AreCaptured, DecodesAs, captured_ladder};
 
 /// The ladder that a [`crate::FrameDrawer`] draws of frames is the one that `decode --ladder`
 /// prints for their capture, as a `CaptureWriter` of `lapd_capture` writes it for either side.

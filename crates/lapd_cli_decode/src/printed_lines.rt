@@ -6,13 +6,12 @@ ghost use Rattle.lapd_cli_decode.specs.PrintedLines.{LinesEnd, before_lines};
 ghost use Rattle.lapd_cli_decode.specs.LinesPrinter.{printing_of};
 
 use crate::capture_lines::note_misfit;
-use crate::frame_printer::{Follow, FramePrinter, Origin};
-use crate::frame_style::FrameStyle;
 use crate::line_decoder::report;
 use crate::line_form::{LineForm, strict_line};
 use crate::line_sender::LineSender;
 use crate::loose::{Sent, loose_line};
 use crate::timed::timed_line;
+use lapd_cli_frames::{Follow, FramePrinter, FrameStyle, Origin};
 use lapd_cli_script::{Command, LineFault, ScriptFault, walk};
 use lapd_frame::Side;
 use std::alloc::Global;

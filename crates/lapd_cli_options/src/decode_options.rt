@@ -8,9 +8,10 @@ use crate::option_tables::KINDS;
 use crate::script_command::ScriptCommand;
 use clap::ArgMatches;
 use lapd_cli_values::{
-    COUNT, FOLLOWED_K, Filter, NumberOption, PRINTED_CALL, PRINTED_SAPI, PRINTED_TEI, Side,
-    number_written, window_written,
+    COUNT, FOLLOWED_K, NumberOption, PRINTED_CALL, PRINTED_SAPI, PRINTED_TEI, Side, number_written,
+    window_written,
 };
+use lapd_filter::Filter;
 use std::alloc::Global;
 
 /// The frames of a picture without `--count`: a browser shows a picture of some megabytes.

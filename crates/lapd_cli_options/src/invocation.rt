@@ -2,7 +2,8 @@ ghost use Rattle.std.specs.Prelude.{◌≡◌};
 ghost use Rattle.lapd_cli_options.specs.CommandLine.{IsDefault, terminal_clock, time_in_capture, typed_invocation};
 
 use crate::conform_options::Conformance;
-use lapd_cli_values::{Filter, Interface, LinkEnd, Params, Sapi, Side, Tei};
+use lapd_cli_values::{Interface, LinkEnd, Params, Sapi, Side, Tei};
+use lapd_filter::Filter;
 use std::alloc::Global;
 
 /// The meaning of the program's words.

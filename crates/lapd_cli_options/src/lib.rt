@@ -36,8 +36,9 @@ pub use invocation::{
     PrintedLayout, PrintedTime,
 };
 pub use lapd_cli_values::{
-    Durations, Filter, Interface, LinkEnd, OutOfRange, Params, Recovery, Sapi, Side, Tei,
+    Durations, Interface, LinkEnd, OutOfRange, Params, Recovery, Sapi, Side, Tei,
 };
+pub use lapd_filter::Filter;
 pub use no_invocation::NoInvocation;
 use no_invocation::refused_by_parser;
 pub use parser::VERSION;

@@ -1,4 +1,3 @@
-pub mod Filter
 pub mod Options
 pub mod Numerals
 pub mod Interfaces

@@ -1,12 +1,11 @@
-//! The values of the program `lapd`'s options: which numbers they accept, and the
-//! error for any other text. A [`Filter`] chooses the frames that `decode` prints.
+//! The values of the program `lapd`'s options: which numbers they accept, and the error for any
+//! other text.
 //!
 //! This crate does not depend on the command line, so its proofs and edits do not read the parser.
 //! Begin with [`params_written`].
 #![tactic(auto)]
 
 mod address_option;
-mod filter;
 mod interface;
 mod interface_options;
 mod link_end;
@@ -15,7 +14,6 @@ mod numbers;
 mod out_of_range;
 
 pub use address_option::{AddressOption, CONNECT, GSMTAP, LISTEN};
-pub use filter::Filter;
 pub use interface::Interface;
 pub use interface_options::{
     InterfaceFault, InterfaceOptions, durations_written, interface_written, tei_written,

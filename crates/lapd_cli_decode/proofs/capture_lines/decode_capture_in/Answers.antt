@@ -1,7 +1,7 @@
 use Rattle.std.proofs.Common.{subst}
 use Rattle.lapd_capture.specs.Reader.{reading_of}
 use Rattle.lapd_cli_decode.specs.Captured.{CaptureEnds, Place}
-use Rattle.lapd_cli_decode.specs.Frames.{Printing}
+use Rattle.lapd_cli_frames.specs.Frames.{Printing}
 use Rattle.lapd_cli_decode.proofs.capture_lines.decode_capture_in.Goals as goal
 
 pub returns-in-Ok : goal.returns-in-Ok

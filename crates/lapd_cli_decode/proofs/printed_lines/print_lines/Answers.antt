@@ -1,6 +1,6 @@
 use Rattle.std.proofs.Common.{IfSome, None, subst}
 use Rattle.lapd_cli_script.specs.Script.{lines_of}
-use Rattle.lapd_cli_decode.specs.Frames.{Printing}
+use Rattle.lapd_cli_frames.specs.Frames.{Printing}
 use Rattle.lapd_cli_decode.specs.PrintedLines.{LinesEnd, PrintingLines}
 use Rattle.lapd_cli_decode.proofs.printed_lines.print_lines.Goals as goal
 

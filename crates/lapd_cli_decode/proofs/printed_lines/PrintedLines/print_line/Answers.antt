@@ -1,5 +1,5 @@
 use Rattle.std.proofs.Common.{◌≡◌, [], Some, sym, ◌∙◌}
-use Rattle.lapd_cli_decode.specs.Frames.{is_complete}
+use Rattle.lapd_cli_frames.specs.Frames.{is_complete}
 use Rattle.lapd_cli_decode.specs.LinesPrinter.{printing_of}
 use Rattle.lapd_cli_decode.specs.PrintedLines.{step_by}
 use Rattle.lapd_cli_decode.proofs.Lines.{before_the_last}

@@ -1,5 +1,0 @@
-use Rattle.lapd_cli_decode.proofs.ByKind.{shown_alike}
-use Rattle.lapd_cli_decode.proofs.laws.both_read_alike.Goals as goal
-
-pub returns : goal.returns
-returns c = shown_alike

@@ -1,0 +1,17 @@
+pub mod AnySapi
+pub mod CallFilter
+pub mod Color
+pub mod Drawn
+pub mod Filter
+pub mod Frames
+pub mod LiveLadder
+pub mod Missing
+pub mod Record
+pub mod Remarked
+pub mod Senders
+pub mod Shown
+pub mod ShownObject
+pub mod ShownText
+pub mod Style
+pub mod Tables
+pub mod Time
