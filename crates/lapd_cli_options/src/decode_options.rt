@@ -25,6 +25,9 @@ const LAYOUTS: [PrintedLayout; 5] = [
     PrintedLayout::Calls,
 ];
 
+/// What `--time` requires.
+const CAPTURE_OR_LOG: &str = "a capture or a log: --pcap FILE, FILE, or --loose";
+
 /// No flags.
 const NO_FLAGS: &[&str] = &[];
 
@@ -154,7 +157,7 @@ fn no_octets_of<'a>(
     if given.get_flag("names") {
         Ok(true)
     } else {
-        Err(NoInvocation::NotNamed("no-octets"))
+        Err(NoInvocation::Requires("no-octets", "--names"))
     }
 }
 
@@ -187,7 +190,7 @@ fn follow_of<'a>(given: &ArgMatches<'a>) -> Result<Option<FollowOptions>, NoInvo
         return Ok(Some(FollowOptions { k }));
     }
     match k {
-        Some(_) => Err(NoInvocation::NotFollowed(FOLLOWED_K.name)),
+        Some(_) => Err(NoInvocation::Requires(FOLLOWED_K.name, "--follow")),
         None => Ok(None),
     }
 }
@@ -224,7 +227,7 @@ fn time_of<'a>(
     if given.get_str("pcap").is_some() || has_files(given) || given.get_flag("loose") {
         Ok(time)
     } else {
-        Err(NoInvocation::NotCaptured("time"))
+        Err(NoInvocation::Requires("time", CAPTURE_OR_LOG))
     }
 }
 
@@ -308,8 +311,8 @@ fn octet_of<'a>(
     }
 }
 
-// The number of this option, if it is present.
-fn number_of<'a>(
+/// The number of this option, if it is present.
+pub(crate) fn number_of<'a>(
     given: &ArgMatches<'a>,
     option: NumberOption,
 ) -> Result<Option<u64>, NoInvocation<'a>> {

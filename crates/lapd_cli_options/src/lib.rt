@@ -50,9 +50,8 @@ use tips::with_tip;
 /// # Errors
 ///
 /// - `Shown` if the words request help or the version;
-/// - `Refused`, `OutOfRange`, `NotReal`, `NotFollowed`, `NotLinks`, `NotNamed`, `NotCaptured`,
-///   `PcapAndFile`, `OneFile`, `NotBoth`, `NotKinds`, `OneConnection`, `NoSide` or `NoAddress` if
-///   they are not valid;
+/// - `Refused`, `OutOfRange`, `Requires`, `PcapAndFile`, `OneFile`, `NotKinds`, `NotBoth`, `NoSide`
+///   or `NoAddress` if they are not valid;
 /// - `Memory` if an allocation fails.
 pub fn parse_words<'a, S: AsStr>(
     alloc: Global,
