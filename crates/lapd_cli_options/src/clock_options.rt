@@ -1,5 +1,6 @@
 //! The clock of `net` or `user`, from the parsed options.
 
+use crate::decode_options::number_of;
 use crate::invocation::{Clock, LiveOptions, USUAL_AUDIT};
 use crate::no_invocation::NoInvocation;
 use crate::script_command::ScriptCommand;
@@ -48,7 +49,7 @@ fn side_clock_of<'a>(given: &ArgMatches<'a>) -> Result<Clock<'a>, NoInvocation<'
         return Ok(Clock::Real(live_options_of(given)?));
     }
     match real_option_of(given) {
-        Some(option) => Err(NoInvocation::NotReal(option)),
+        Some(option) => Err(NoInvocation::Requires(option, "--clock real")),
         None => Ok(Clock::Script),
     }
 }
@@ -78,7 +79,7 @@ fn live_options_of<'a>(given: &ArgMatches<'a>) -> Result<LiveOptions<'a>, NoInvo
         keep: given.get_flag("keep"),
         clear: clear_of(given)?,
         terminals,
-        idle_limit: idle_limit_of(given)?,
+        idle_limit: number_of(given, IDLE_LIMIT)?,
         audit: audit_of(given, terminals)?,
         ties: !given.get_flag("no-ties"),
         pcap: given.get_str("pcap"),
@@ -117,18 +118,10 @@ fn audit_of<'a>(given: &ArgMatches<'a>, terminals: u8) -> Result<Option<u64>, No
         (Some(_), true) => Err(NoInvocation::NotBoth(AUDIT.name, "no-audit")),
         (Some(_), _) if given.get_flag("pri") => Err(NoInvocation::NotBoth(AUDIT.name, "pri")),
         (Some(_), _) if terminals < 2 && !given.get_flag("keep") => {
-            Err(NoInvocation::OneConnection)
+            Err(NoInvocation::Requires(AUDIT.name, "--keep or --terminals above 1"))
         }
         (Some(written), _) => Ok(Some(number_written(AUDIT, written)?)),
         (None, true) => Ok(None),
         (None, false) => Ok(Some(USUAL_AUDIT)),
-    }
-}
-
-// How long a connection may go without sending a whole frame, in milliseconds.
-fn idle_limit_of<'a>(given: &ArgMatches<'a>) -> Result<Option<u64>, NoInvocation<'a>> {
-    match given.get_str(IDLE_LIMIT.name) {
-        Some(written) => Ok(Some(number_written(IDLE_LIMIT, written)?)),
-        None => Ok(None),
     }
 }

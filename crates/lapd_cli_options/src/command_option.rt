@@ -1,7 +1,7 @@
 //! The options of a command, as arguments of the parser.
 
-use crate::help;
 use clap::{Arg, ArgAction};
+use lapd_cli_help::help;
 use lapd_cli_values::{AddressOption, NumberOption};
 use std::alloc::Global;
 

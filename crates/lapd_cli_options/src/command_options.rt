@@ -52,7 +52,7 @@ fn bus_of<'a>(given: &ArgMatches<'a>) -> Result<Job, NoInvocation<'a>> {
             terminals,
             is_drawn,
         }),
-        (false, true) => Err(NoInvocation::NotLinks("ladder")),
+        (false, true) => Err(NoInvocation::Requires("ladder", "--links")),
         (false, false) => Ok(Job::Bus { terminals }),
     }
 }

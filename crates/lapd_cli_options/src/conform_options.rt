@@ -1,9 +1,10 @@
 //! The options of `conform`.
 
+use crate::decode_options::number_of;
 use crate::no_invocation::NoInvocation;
 use crate::option_tables::{DRAW, DRAW_SEED, STACK_CONNECT, STACK_LISTEN, UPPER};
 use clap::ArgMatches;
-use lapd_cli_values::{NumberOption, Side, number_written};
+use lapd_cli_values::Side;
 use std::alloc::Global;
 
 /// The name of the command.
@@ -99,7 +100,7 @@ fn stimuli_of<'a>(alloc: Global, given: &ArgMatches<'a>) -> Result<Stimuli<'a>, 
     let seed = number_of(given, DRAW_SEED)?;
     let Some(count) = number_of(given, DRAW)? else {
         return match seed {
-            Some(_) => Err(NoInvocation::NotDrawn(DRAW_SEED.name)),
+            Some(_) => Err(NoInvocation::Requires(DRAW_SEED.name, "--draw")),
             None => cases_played(alloc, given),
         };
     };
@@ -145,20 +146,6 @@ fn option_of_cases(given: &ArgMatches<'_>) -> Option<&'static str> {
         Some("print")
     } else {
         None
-    }
-}
-
-// The number of this option, if it is present.
-fn number_of<'a>(
-    given: &ArgMatches<'a>,
-    option: NumberOption,
-) -> Result<Option<u64>, NoInvocation<'a>> {
-    match given.get_str(option.name) {
-        Some(written) => match number_written(option, written) {
-            Ok(number) => Ok(Some(number)),
-            Err(fault) => Err(NoInvocation::OutOfRange(fault)),
-        },
-        None => Ok(None),
     }
 }
 

@@ -26,6 +26,9 @@ const LAYOUTS: [PrintedLayout; 5] = [
     PrintedLayout::Calls,
 ];
 
+/// What `--time` requires.
+const CAPTURE_OR_LOG: &str = "a capture or a log: --pcap FILE, FILE, or --loose";
+
 /// No flags.
 const NO_FLAGS: &[&str] = &[];
 
@@ -155,7 +158,7 @@ fn no_octets_of<'a>(
     if given.get_flag("names") {
         Ok(true)
     } else {
-        Err(NoInvocation::NotNamed("no-octets"))
+        Err(NoInvocation::Requires("no-octets", "--names"))
     }
 }
 
@@ -188,7 +191,7 @@ fn follow_of<'a>(given: &ArgMatches<'a>) -> Result<Option<FollowOptions>, NoInvo
         return Ok(Some(FollowOptions { k }));
     }
     match k {
-        Some(_) => Err(NoInvocation::NotFollowed(FOLLOWED_K.name)),
+        Some(_) => Err(NoInvocation::Requires(FOLLOWED_K.name, "--follow")),
         None => Ok(None),
     }
 }
@@ -225,7 +228,7 @@ fn time_of<'a>(
     if given.get_str("pcap").is_some() || has_files(given) || given.get_flag("loose") {
         Ok(time)
     } else {
-        Err(NoInvocation::NotCaptured("time"))
+        Err(NoInvocation::Requires("time", CAPTURE_OR_LOG))
     }
 }
 
@@ -309,8 +312,8 @@ fn octet_of<'a>(
     }
 }
 
-// The number of this option, if it is present.
-fn number_of<'a>(
+/// The number of this option, if it is present.
+pub(crate) fn number_of<'a>(
     given: &ArgMatches<'a>,
     option: NumberOption,
 ) -> Result<Option<u64>, NoInvocation<'a>> {

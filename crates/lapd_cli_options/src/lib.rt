@@ -1,4 +1,5 @@
-//! The command line of the program `lapd`: the meaning of its words, and its help texts.
+//! The command line of the program `lapd`: the meaning of its words. `lapd_cli_help` has the help
+//! texts.
 //!
 //! This crate is separate from the program so that a change to one does not prove the other again,
 //! and so that only this crate reads the parser. Begin with [`words`] and [`parse_words`].
@@ -8,21 +9,16 @@ ghost use Rattle.std.specs.Prelude.{◌<◌, length, IsOkAnd};
 ghost use Rattle.lapd_cli_options.specs.CommandLine.{IsDefaultChoice};
 
 mod clock_options;
-pub mod command_help;
 mod command_option;
 mod command_options;
-pub mod conform_help;
 mod conform_options;
-pub mod decode_help;
 mod decode_options;
-pub mod help;
 mod invocation;
 mod no_invocation;
 mod option_tables;
 mod parser;
 mod program_words;
 mod script_command;
-pub mod side_help;
 mod tips;
 
 use clap::{ArgMatches, Command};
@@ -55,9 +51,8 @@ use tips::with_tip;
 /// # Errors
 ///
 /// - `Shown` if the words request help or the version;
-/// - `Refused`, `OutOfRange`, `NotReal`, `NotFollowed`, `NotLinks`, `NotNamed`, `NotCaptured`,
-///   `PcapAndFile`, `OneFile`, `NotBoth`, `NotKinds`, `OneConnection`, `NoSide` or `NoAddress` if
-///   they are not valid;
+/// - `Refused`, `OutOfRange`, `Requires`, `PcapAndFile`, `OneFile`, `NotKinds`, `NotBoth`, `NoSide`
+///   or `NoAddress` if they are not valid;
 /// - `Memory` if an allocation fails.
 pub fn parse_words<'a, S: AsStr>(
     alloc: Global,

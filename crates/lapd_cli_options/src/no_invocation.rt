@@ -11,24 +11,14 @@ pub enum NoInvocation<'a> {
     /// 0.
     Shown(String),
     /// The parser refuses them, for the reason in this text. The text is for standard error, and
-    /// the exit status is 2, as for `OutOfRange`, `NotReal`, `NotFollowed`, `NotLinks`, `NotNamed`,
-    /// `NotCaptured`, `PcapAndFile`, `OneFile`, `NotBoth`, `NotKinds`, `NotDrawn`, `OneConnection`,
-    /// `NoSide` and `NoAddress`.
+    /// the exit status is 2, as for `OutOfRange`, `Requires`, `PcapAndFile`, `OneFile`, `NotKinds`,
+    /// `NotBoth`, `NoSide` and `NoAddress`.
     Refused(String),
     /// A number that is not in the range of its option.
     OutOfRange(OutOfRange<'a>),
-    /// The option with this name, without the hyphens, requires the real clock, which was not
-    /// requested.
-    NotReal(&'static str),
-    /// The option with this name, without the hyphens, requires `--follow`, which is absent.
-    NotFollowed(&'static str),
-    /// The option with this name, without the hyphens, requires `--links`, which is absent.
-    NotLinks(&'static str),
-    /// The option with this name, without the hyphens, requires `--names`, which is absent.
-    NotNamed(&'static str),
-    /// The option with this name, without the hyphens, requires a capture or a log: there is no file,
-    /// and standard input is read as a script.
-    NotCaptured(&'static str),
+    /// The option with this name, without the hyphens, requires what this text names, which is
+    /// absent.
+    Requires(&'static str, &'static str),
     /// `--pcap` is present, and files besides.
     PcapAndFile,
     /// The option with this name, without the hyphens, is present, and more than one file.
@@ -37,10 +27,6 @@ pub enum NoInvocation<'a> {
     NotKinds(&'a str),
     /// The options with these names, without the hyphens, exclude each other.
     NotBoth(&'static str, &'static str),
-    /// The option with this name, without the hyphens, requires `--draw`, which is absent.
-    NotDrawn(&'static str),
-    /// `--audit` is present, but the side accepts no connection after the first.
-    OneConnection,
     /// `--of` is absent, and cases are not printed.
     NoSide,
     /// `--connect` and `--listen` are absent, and cases are not printed.
@@ -55,20 +41,8 @@ impl fmt::Display for NoInvocation<'_> {
         match self {
             NoInvocation::Shown(text) | NoInvocation::Refused(text) => f.write_str(text.as_str()),
             NoInvocation::OutOfRange(fault) => writeln!(f, "{fault}"),
-            NoInvocation::NotReal(option) => {
-                writeln!(f, "error: --{option} requires --clock real")
-            }
-            NoInvocation::NotFollowed(option) => {
-                writeln!(f, "error: --{option} requires --follow")
-            }
-            NoInvocation::NotLinks(option) => writeln!(f, "error: --{option} requires --links"),
-            NoInvocation::NotDrawn(option) => writeln!(f, "error: --{option} requires --draw"),
-            NoInvocation::NotNamed(option) => writeln!(f, "error: --{option} requires --names"),
-            NoInvocation::NotCaptured(option) => {
-                writeln!(
-                    f,
-                    "error: --{option} requires a capture or a log: --pcap FILE, FILE, or --loose"
-                )
+            NoInvocation::Requires(option, what) => {
+                writeln!(f, "error: --{option} requires {what}")
             }
             NoInvocation::PcapAndFile => {
                 f.write_str(
@@ -82,9 +56,6 @@ impl fmt::Display for NoInvocation<'_> {
             ),
             NoInvocation::NotBoth(option, other) => {
                 writeln!(f, "error: --{option} cannot be used with --{other}")
-            }
-            NoInvocation::OneConnection => {
-                f.write_str("error: --audit requires --keep or --terminals above 1\n")
             }
             NoInvocation::NoSide => {
                 f.write_str("error: --of net or --of user is required: the side that is tested\n")

@@ -2,7 +2,7 @@
 //! groups are shared.
 
 use crate::command_option::{CommandOption, WordOption};
-use crate::{conform_help, help};
+use lapd_cli_help::{conform_help, help};
 use lapd_cli_values::{
     AUDIT, AddressOption, CONNECT, CONNECTED_TERMINALS, COUNT, FIXED_TEI, FOLLOWED_K, GSMTAP,
     IDLE_LIMIT, K, KNOWN_TEI, LINK_TEI, LINKS_K, LISTEN, N200, NumberOption, PRINTED_CALL,

@@ -3,9 +3,10 @@
 use crate::command_option::{CommandOption, arg_of};
 use crate::no_invocation::{NoInvocation, refused_by_parser};
 use crate::script_command::{COMMANDS, ScriptCommand};
-use crate::{conform_help, conform_options, help, option_tables};
+use crate::{conform_options, option_tables};
 use clap::error::ErrorKind;
 use clap::{Arg, ArgMatches, Command, Error};
+use lapd_cli_help::{conform_help, help};
 use std::alloc::{AllocError, Global};
 use strsim::osa_distance;
 

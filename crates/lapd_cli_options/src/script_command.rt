@@ -1,7 +1,8 @@
 //! The commands that execute a script: their names, their help and their options.
 
 use crate::command_option::CommandOption;
-use crate::{command_help, decode_help, help, option_tables, side_help};
+use crate::option_tables;
+use lapd_cli_help::{command_help, decode_help, help, side_help};
 
 /// A command that executes a script.
 #[derive(Clone, Copy, PartialEq, Eq)]

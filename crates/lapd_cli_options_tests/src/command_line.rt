@@ -2,11 +2,11 @@
 
 mod words;
 
-use crate::scenarios::words_of;
+use lapd_cli_help::help;
 use lapd_cli_options::{
     CaseChoice, Chosen, Clock, Color, Conformance, DecodeOptions, Durations, Filter, FollowOptions,
     Interface, Invocation, Job, NoInvocation, Params, PrintedLayout, PrintedTime, Recovery, Side,
-    Stimuli, help, parse_words,
+    Stimuli, parse_words,
 };
 use lapd_cli_script::{PortFault, ScriptFault};
 use lapd_timers::Timer;
@@ -620,6 +620,17 @@ fn show_durations(text: &mut String, durations: &Durations) {
     for timer in [Timer::T200, Timer::T201, Timer::T202, Timer::T203] {
         let _ = write!(text, " {}", durations.of(timer));
     }
+}
+
+/// The program's words, separated by bars if there are any, else by single spaces. The first word
+/// is the program's name.
+fn words_of<'a>(alloc: Global, row: &'a str) -> Vec<&'a str> {
+    let mut words = Vec::new(alloc);
+    let parted_by = if row.contains('|') { '|' } else { ' ' };
+    for word in row.split(parted_by) {
+        let _ = words.push(word);
+    }
+    words
 }
 
 /// Whether the words of a row have the meaning in the row. For words that the parser refuses, its

@@ -23,7 +23,7 @@ use std::io::{self, ErrorKind, Read, Write};
 
 /// The rest of a scenario that is running.
 #[derive(Drop)]
-pub(crate) struct Scenario<'a> {
+pub struct Scenario<'a> {
     /// The rest of it, from the beginning of the current line.
     line: Cell<&'a [u8]>,
     /// The rest of it.
@@ -69,7 +69,7 @@ fn part_of(left: &[u8], stop: u8) -> &[u8] {
 
 impl<'a> Scenario<'a> {
     /// A scenario at its beginning.
-    pub(crate) fn new(text: &'a str, most: usize) -> Scenario<'a> {
+    pub fn new(text: &'a str, most: usize) -> Scenario<'a> {
         Scenario {
             line: Cell::new(text.as_bytes()),
             left: Cell::new(text.as_bytes()),
@@ -160,7 +160,7 @@ impl<'a> Scenario<'a> {
     }
 
     /// Whether the scenario is complete, and ends with this result.
-    pub(crate) fn ends(&self, alloc: Global, ended: Result<(), ScriptFault>) -> bool {
+    pub fn ends(&self, alloc: Global, ended: Result<(), ScriptFault>) -> bool {
         let left = self.left.get();
         match ended {
             Ok(()) => left.is_empty() || left == b"!\n".as_slice(),
@@ -172,19 +172,19 @@ impl<'a> Scenario<'a> {
     }
 
     /// The mark of the current line, or of the next one.
-    pub(crate) fn mark(&self) -> &'static [u8] {
+    pub fn mark(&self) -> &'static [u8] {
         mark_of(self.line.get())
     }
 
     /// Whether the current line is incomplete.
-    pub(crate) fn is_within_line(&self) -> bool {
+    pub fn is_within_line(&self) -> bool {
         self.line.get().len() != self.left.get().len()
     }
 }
 
 /// The script's reader and the writer of a scenario.
 #[derive(Drop)]
-pub(crate) struct Console<'b, 'a>(pub(crate) &'b Scenario<'a>);
+pub struct Console<'b, 'a>(pub &'b Scenario<'a>);
 
 impl Read for Console<'_, '_> {
     fn read(&mut self, octets: &mut [u8]) -> io::Result<usize> {
@@ -218,7 +218,7 @@ impl Write for Console<'_, '_> {
 
 /// The port of a scenario.
 #[derive(Drop)]
-pub(crate) struct Line<'b, 'a>(pub(crate) &'b Scenario<'a>);
+pub struct Line<'b, 'a>(pub &'b Scenario<'a>);
 
 impl Read for Line<'_, '_> {
     fn read(&mut self, octets: &mut [u8]) -> io::Result<usize> {

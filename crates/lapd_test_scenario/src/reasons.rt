@@ -1,37 +1,17 @@
 //! Why a line is not valid for its command: chosen lines and random ones, for each command. The
-//! command itself decides whether a line is bad, and prints nothing for it; with the real clock,
-//! `read_live_line` decides.
+//! command itself decides whether a line is bad, and prints nothing for it.
 
-mod lines;
-
-use crate::run::run;
-use crate::scenarios::words_of;
+use crate::commands::Commands;
+use crate::{CommandWords, lines};
 use arrayvec::ArrayVec;
 use lapd_cli_console::{Script, reason, tidied};
-use lapd_cli_live_text::read_live_line;
-use lapd_cli_options::{Chosen, Invocation, parse_words};
-use lapd_cli_script::{LineFault, ScriptFault};
-use lapd_cli_side_commands::{FromRead, FromWrite, Port};
-use lapd_sides::{Side, Tei};
+use lapd_cli_script::ScriptFault;
+use lapd_port::{FromRead, FromWrite, Port};
 use rand_core::{Rng, SeedableRng};
 use rand_pcg::Pcg32;
 use std::alloc::{AllocError, Global};
 use std::io;
 use std::test::Fail;
-
-/// The commands, and words that choose them.
-const COMMANDS: &[(Script, &str)] = &[
-    (Script::Answer, "lapd answer"),
-    (Script::Bus, "lapd bus"),
-    (Script::BusLinks, "lapd bus --links"),
-    (Script::Decode, "lapd decode"),
-    (Script::LiveNet, "lapd net --listen a:1 --clock real"),
-    (Script::LiveUser, "lapd user --connect a:1 --clock real"),
-    (Script::Loop, "lapd loop"),
-    (Script::Net, "lapd net --listen a:1"),
-    (Script::Pair, "lapd pair"),
-    (Script::User, "lapd user --connect a:1"),
-];
 
 /// Octets that are not UTF-8, and lines whose fault is not visible.
 const UNSEEN: &[(&[u8], &str)] = &[
@@ -67,14 +47,19 @@ const GOOD_COUNT: usize = 115;
 /// Octets that are inserted into lines.
 const OCTETS: &[u8] = b" 0g1#\t\r\xff";
 
-/// A command, and the invocation that chose it.
-type Command<'a, 'w> = (Script, &'a Invocation<'w>);
+/// The commands, the script of one of them, and its words.
+type Command<'a, C> = (&'a C, Script, CommandWords<'a>);
 
 /// Whether a line has a reason exactly if its command refuses it, and the reason is `wanted`. There
 /// `?` means any reason, and `*` means any or none.
-fn has_reason(alloc: Global, command: Command<'_, '_>, line: &[u8], wanted: &str) -> bool {
+fn has_reason<C: Commands>(
+    alloc: Global,
+    command: Command<'_, C>,
+    line: &[u8],
+    wanted: &str,
+) -> bool {
     let is_bad = is_bad(alloc, command, line);
-    match reason(alloc, command.0, line) {
+    match reason(alloc, command.1, line) {
         Ok(Some(reason)) => {
             is_bad && (reason.as_str() == wanted || wanted == "?" || wanted == "*")
         }
@@ -93,26 +78,21 @@ fn name_of(script: Script) -> &'static str {
 }
 
 /// Whether a command refuses a line.
-fn is_bad(alloc: Global, (script, chosen): Command<'_, '_>, line: &[u8]) -> bool {
-    match script {
-        Script::LiveNet => is_bad_live(alloc, Side::Network, line),
-        Script::LiveUser => is_bad_live(alloc, Side::User, line),
-        _ => is_bad_script(alloc, chosen, line),
-    }
+fn is_bad<C: Commands>(alloc: Global, command: Command<'_, C>, line: &[u8]) -> bool {
+    let (commands, script, words) = command;
+    commands.refuses(alloc, script, words, line)
 }
 
-/// Whether a line is not valid for a side with the real clock.
-fn is_bad_live(alloc: Global, side: Side, line: &[u8]) -> bool {
-    let is_passed_over = matches!(line, [] | [b'#', ..]);
-    let read = read_live_line(alloc, side, Tei::group(), line);
-    !is_passed_over && matches!(&read, Err(LineFault::Bad))
-}
-
-/// Whether a command refuses a script of this line, and prints nothing.
-fn is_bad_script(alloc: Global, chosen: &Invocation<'_>, mut line: &[u8]) -> bool {
+/// Whether the command of these words refuses a script of this line, and prints nothing.
+pub fn refuses_script<C: Commands>(
+    alloc: Global,
+    commands: &C,
+    words: CommandWords<'_>,
+    mut line: &[u8],
+) -> bool {
     let mut printed = Vec::new(alloc);
     let port = Port::new(FromRead::new(b"".as_slice()), FromWrite::new(io::sink()));
-    let (ended, _port) = run(alloc, chosen, &mut line, &mut printed, port);
+    let (ended, _port) = commands.run(alloc, words, &mut line, &mut printed, port);
     ended == Err(ScriptFault::BadLine(1)) && printed.is_empty()
 }
 
@@ -120,11 +100,11 @@ fn is_bad_script(alloc: Global, chosen: &Invocation<'_>, mut line: &[u8]) -> boo
 type Row = (&'static [u8], &'static str);
 
 /// The first of the rows of a command that does not hold.
-fn wrong_row(alloc: Global, command: Command<'_, '_>) -> Option<Row> {
+fn wrong_row<C: Commands>(alloc: Global, command: Command<'_, C>) -> Option<Row> {
     for row in lines::BAD.lines().chain(lines::GOOD.lines()) {
         let (name, row) = row.split_once(": ").unwrap_or((row, ""));
         let (line, wanted) = row.split_once(" => ").unwrap_or((row, ""));
-        if name == name_of(command.0) && !has_reason(alloc, command, line.as_bytes(), wanted) {
+        if name == name_of(command.1) && !has_reason(alloc, command, line.as_bytes(), wanted) {
             return Some((line.as_bytes(), wanted));
         }
     }
@@ -132,11 +112,11 @@ fn wrong_row(alloc: Global, command: Command<'_, '_>) -> Option<Row> {
 }
 
 /// The first row of invalid lines with a line that the command accepts, or that has no reason.
-fn good_line(alloc: Global, command: Command<'_, '_>) -> Option<Row> {
+fn good_line<C: Commands>(alloc: Global, command: Command<'_, C>) -> Option<Row> {
     for row in lines::NONE.lines() {
         let (name, row) = row.split_once(": ").unwrap_or((row, ""));
         for line in row.split('|') {
-            if name.split(", ").any(|name| name == name_of(command.0))
+            if name.split(", ").any(|name| name == name_of(command.1))
                 && !has_reason(alloc, command, line.as_bytes(), "?")
             {
                 return Some((line.as_bytes(), "?"));
@@ -147,9 +127,9 @@ fn good_line(alloc: Global, command: Command<'_, '_>) -> Option<Row> {
 }
 
 /// The first line with invalid or invisible octets that has another reason.
-fn wrong_octets(alloc: Global, command: Command<'_, '_>) -> Option<Row> {
+fn wrong_octets<C: Commands>(alloc: Global, command: Command<'_, C>) -> Option<Row> {
     for (line, wanted) in UNSEEN {
-        if command.0 == Script::Decode && !has_reason(alloc, command, *line, *wanted) {
+        if command.1 == Script::Decode && !has_reason(alloc, command, *line, *wanted) {
             return Some((*line, *wanted));
         }
     }
@@ -157,10 +137,14 @@ fn wrong_octets(alloc: Global, command: Command<'_, '_>) -> Option<Row> {
 }
 
 /// The verdict on a line: whether the command refuses it, and the reason.
-fn verdict_on(alloc: Global, command: Command<'_, '_>, line: &[u8]) -> Result<String, AllocError> {
+fn verdict_on<C: Commands>(
+    alloc: Global,
+    command: Command<'_, C>,
+    line: &[u8],
+) -> Result<String, AllocError> {
     let is_bad = is_bad(alloc, command, line);
     let refused = if is_bad { "refused" } else { "accepted" };
-    match reason(alloc, command.0, line)? {
+    match reason(alloc, command.1, line)? {
         Some(reason) => format!(in alloc; "{refused}, with the reason '{reason}'"),
         None => format!(in alloc; "{refused}, without a reason"),
     }
@@ -177,11 +161,16 @@ fn stated_verdict(alloc: Global, wanted: &str) -> Result<String, AllocError> {
 }
 
 /// The failure of a line of this command: the verdict on it beside the one that its row states.
-fn failure_of(alloc: Global, command: Command<'_, '_>, line: &[u8], wanted: &str) -> Fail {
+fn failure_of<C: Commands>(
+    alloc: Global,
+    command: Command<'_, C>,
+    line: &[u8],
+    wanted: &str,
+) -> Fail {
     let made = verdict_on(alloc, command, line);
     let stated = stated_verdict(alloc, wanted);
     if let (Ok(made), Ok(stated)) = (made, stated) {
-        let name = name_of(command.0);
+        let name = name_of(command.1);
         let line = line.escape_ascii();
         Fail::new(format_args!("{name}: '{line}': it is {made}; the row wants it {stated}"))
     } else {
@@ -234,7 +223,7 @@ fn draw_changed(random: &mut Pcg32, line: &mut Drawn) {
 
 /// Whether random lines have a reason exactly if a command refuses them. The last random line is
 /// kept.
-fn agrees(alloc: Global, command: Command<'_, '_>, line: &mut Drawn) -> bool {
+fn agrees<C: Commands>(alloc: Global, command: Command<'_, C>, line: &mut Drawn) -> bool {
     let mut random = Pcg32::seed_from_u64(921);
     for _draw in 0..1000 {
         draw_words(&mut random, line);
@@ -250,7 +239,13 @@ fn agrees(alloc: Global, command: Command<'_, '_>, line: &mut Drawn) -> bool {
 }
 
 /// Fails the test at the first line of a command that is not as the rows say.
-fn lines_hold(alloc: Global, command: Command<'_, '_>) -> Result<(), Fail> {
+pub fn lines_hold<C: Commands>(
+    alloc: Global,
+    commands: &C,
+    script: Script,
+    words: &str,
+) -> Result<(), Fail> {
+    let command = (commands, script, CommandWords(words));
     let mut drawn = Drawn::new();
     let wrong = wrong_row(alloc, command)
         .or(good_line(alloc, command))
@@ -262,29 +257,20 @@ fn lines_hold(alloc: Global, command: Command<'_, '_>) -> Result<(), Fail> {
     }
 }
 
-/// Fails the test at the first line of the command with these words that is not as the rows say.
-fn command_holds(alloc: Global, script: Script, words: &[&str]) -> Result<(), Fail> {
-    match parse_words(alloc, words) {
-        Ok(Chosen::Script(chosen)) => lines_hold(alloc, (script, &chosen)),
-        _ => Err(Fail::new("no such words")),
-    }
-}
-
-#[test]
-fn lines_have_reasons(rt: HostRuntime) -> Result<(), Fail> {
-    for (script, words) in COMMANDS {
-        let words = words_of(rt.alloc(), *words);
-        command_holds(rt.alloc(), *script, words.as_slice())?;
-    }
-    Ok(())
-}
-
 /// The line to which a typed line of a command is tidied.
 fn tidied_line(alloc: Global, script: Script, typed: &str) -> Vec<u8> {
     match tidied(alloc, script, typed.as_bytes()) {
         Ok(line) => line,
         Err(_) => Vec::new(alloc),
     }
+}
+
+/// Fails the test if the command of `script` tidies a typed line otherwise than its row says.
+pub fn typed_lines_hold(alloc: Global, script: Script) -> Result<(), Fail> {
+    for row in lines::TYPED.lines() {
+        typed_row_holds(alloc, script, row)?;
+    }
+    Ok(())
 }
 
 /// Fails the test if the command of `script` tidies the typed line of `row` otherwise than `row`
@@ -301,14 +287,4 @@ fn typed_row_holds(alloc: Global, script: Script, row: &str) -> Result<(), Fail>
             "{name}: '{typed}': it is tidied to '{made}'; the row wants '{meant}'"
         )))
     }
-}
-
-#[test]
-fn typed_lines_are_tidied(rt: HostRuntime) -> Result<(), Fail> {
-    for (script, _words) in COMMANDS {
-        for row in lines::TYPED.lines() {
-            typed_row_holds(rt.alloc(), *script, row)?;
-        }
-    }
-    Ok(())
 }

@@ -1,12 +1,10 @@
 //! The memory of the wrappers of standard streams, and typed lines.
 
-use crate::run::run;
-use crate::scenario::{Console, Scenario};
-use crate::scenarios::words_of;
+use lapd_cli_answer::answer;
 use lapd_cli_console::{PrintedAnswers, RecentLines, Refusals, Script, Session};
-use lapd_cli_options::{Chosen, Invocation, parse_words};
 use lapd_cli_script::ScriptFault;
-use lapd_cli_side_commands::{FromRead, FromWrite, Port};
+use lapd_cli_values::{Params, Sapi, Side, Tei};
+use lapd_test_scenario::{Console, Scenario};
 use lapd_test_text::Parts;
 use std::alloc::{AllocError, Global};
 use std::io::{self, BufReader, ErrorKind, Read, Write};
@@ -80,14 +78,14 @@ const NOTES: &[u8] = b"\n# note\n\n#\xff\nstate\n\nframe 008153";
 
 /// Whether such comments are skipped, and the beginning of a bad line after them is kept, with the
 /// line after it.
-fn cuts(alloc: Global, chosen: &Invocation<'_>) -> Result<bool, AllocError> {
+fn cuts(alloc: Global) -> Result<bool, AllocError> {
     let mut text = NOTES.to_vec(alloc)?;
     let mut printed = Vec::new(alloc);
-    let answered = ends(alloc, chosen, &mut NOTES, &mut printed) == Ok(());
+    let answered = ends(alloc, &mut NOTES, &mut printed) == Ok(());
     text.resize(10_000, b'0')?;
     text.extend_from_slice(b"g\nstate\n")?;
     let mut recent = RecentLines::new(text.as_slice());
-    let ended = ends(alloc, chosen, &mut recent, &mut io::sink());
+    let ended = ends(alloc, &mut recent, &mut io::sink());
     Ok(
         answered
             && printed.as_slice() == b"state 4\nsend 00811f\n".as_slice()
@@ -98,15 +96,10 @@ fn cuts(alloc: Global, chosen: &Invocation<'_>) -> Result<bool, AllocError> {
 }
 
 /// How `answer` ends.
-fn ends<R: Read, W: Write>(
-    alloc: Global,
-    chosen: &Invocation<'_>,
-    script: &mut R,
-    out: &mut W,
-) -> Result<(), ScriptFault> {
-    let port = Port::new(FromRead::new(b"".as_slice()), FromWrite::new(io::sink()));
-    let (ended, _port) = run(alloc, chosen, script, out, port);
-    ended
+fn ends<R: Read, W: Write>(alloc: Global, script: &mut R, out: &mut W) -> Result<(), ScriptFault> {
+    let params = Params::basic(Sapi::Call);
+    let tei = Tei::new(64).unwrap();
+    answer(alloc, script, out, Side::Network, Sapi::Call, tei, params)
 }
 
 /// Texts, and the first refusal in each, with `~` for a line feed.
@@ -179,20 +172,20 @@ quit
 
 /// Whether a session of `answer` runs so, with at most `most` octets per call. At the second
 /// `state` the answer must be printed before more is read.
-fn is_typed(alloc: Global, chosen: &Invocation<'_>, most: usize) -> bool {
+fn is_typed(alloc: Global, most: usize) -> bool {
     let scenario = Scenario::new(TYPED, most);
     let Ok(typed) = BufReader::new(alloc, Console(&scenario)) else {
         return false;
     };
     let answers = PrintedAnswers::new(Console(&scenario));
     let mut session = Session::new(alloc, Script::Answer, typed, answers);
-    let ended = ends(alloc, chosen, &mut session, &mut Console(&scenario));
+    let ended = ends(alloc, &mut session, &mut Console(&scenario));
     scenario.ends(alloc, ended)
 }
 
 /// Whether a script may take a million reads, if the last one reaches its end. Interrupted reads
 /// are repeated, and are not faults.
-fn reads_a_million(alloc: Global, chosen: &Invocation<'_>) -> Result<bool, AllocError> {
+fn reads_a_million(alloc: Global) -> Result<bool, AllocError> {
     let feeds = "\n".repeat(alloc, 1_500_000)?;
     let mut few = Parts {
         octets: feeds.as_bytes().get(..999_999).unwrap_or(b""),
@@ -209,9 +202,9 @@ fn reads_a_million(alloc: Global, chosen: &Invocation<'_>) -> Result<bool, Alloc
         most: 8,
         fault: Some(ErrorKind::Interrupted),
     });
-    let reached = ends(alloc, chosen, &mut few, &mut io::sink());
-    let ended = ends(alloc, chosen, &mut many, &mut io::sink());
-    let unread = ends(alloc, chosen, &mut interrupted, &mut io::sink());
+    let reached = ends(alloc, &mut few, &mut io::sink());
+    let ended = ends(alloc, &mut many, &mut io::sink());
+    let unread = ends(alloc, &mut interrupted, &mut io::sink());
     Ok(
         reached == Ok(())
             && ended == Err(ScriptFault::Device)
@@ -222,36 +215,28 @@ fn reads_a_million(alloc: Global, chosen: &Invocation<'_>) -> Result<bool, Alloc
 }
 
 /// The first check of `answer` that fails; empty if none does.
-fn wrong(alloc: Global, chosen: &Invocation<'_>) -> Result<&'static str, AllocError> {
+fn wrong(alloc: Global) -> Result<&'static str, AllocError> {
     for most in [1, 5, 64, 512] {
-        if !is_typed(alloc, chosen, most) {
+        if !is_typed(alloc, most) {
             return Ok("a session");
         }
     }
     Ok(if !takes_long(alloc)? {
         "the last lines of a long text"
-    } else if !cuts(alloc, chosen)? {
+    } else if !cuts(alloc)? {
         "notes, and a long line"
     } else if !are_refused(alloc)? {
         "the first refusal"
-    } else if !reads_a_million(alloc, chosen)? {
+    } else if !reads_a_million(alloc)? {
         "a million reads"
     } else {
         ""
     })
 }
 
-fn wrong_of(alloc: Global, words: &[&str]) -> Result<&'static str, AllocError> {
-    match parse_words(alloc, words) {
-        Ok(Chosen::Script(chosen)) => wrong(alloc, &chosen),
-        _ => Ok("the words"),
-    }
-}
-
 #[test]
 fn streams_are_watched(rt: HostRuntime) -> Result<(), Fail> {
-    let words = words_of(rt.alloc(), "lapd answer");
-    let wrong = wrong_of(rt.alloc(), words.as_slice())?;
+    let wrong = wrong(rt.alloc())?;
     if wrong.is_empty() {
         Ok(())
     } else {
