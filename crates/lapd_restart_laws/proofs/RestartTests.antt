@@ -1,5 +1,5 @@
 -- Tests of the changes of a run with restarts that imply the premises, to compute worked runs.
-use Rattle.std.proofs.Common.{◌≡◌, not, ◌&&◌, List, [], ◌∷◌, Bool, true, false, refl}
+use Rattle.std.proofs.Common.{◌≡◌, not, ◌&&◌, List, [], ◌∷◌, Bool, true, false}
 use Rattle.std.specs.Prelude.{is_some}
 use Rattle.std.specs.List.{list_any}
 use Rattle.lapd_frame.specs.declared.Side.{Side}
