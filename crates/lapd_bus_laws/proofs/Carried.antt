@@ -4,11 +4,9 @@ use Rattle.std.specs.Prelude.{filter, slice_get, ◌||◌}
 use Rattle.std.specs.List.{list_any, filter_map, cons_option, remove}
 use Rattle.std.proofs.lemmas.List.Elements.{filter_map-append}
 use Rattle.std.proofs.lemmas.List.Folds.{list_any-append}
-use Rattle.lapd_frame.specs.declared.Sapi.{Sapi}
 use Rattle.lapd_frame.specs.declared.Sapi.TheVariants as sapi
 use Rattle.lapd_frame.specs.declared.Side.{Side}
 use Rattle.lapd_frame.specs.declared.Side.TheVariants as side
-use Rattle.lapd_frame.specs.declared.Address.{Address}
 use Rattle.lapd_frame.specs.declared.frame_fault.FrameFault.{FrameFault}
 use Rattle.lapd_frame.specs.Frame.{Fields, spelling}
 use Rattle.lapd_frame.specs.Reading.{frame_at}
@@ -20,24 +18,22 @@ use Rattle.lapd_tei.specs.declared.kind.TeiKind.TheVariants as kind
 use Rattle.lapd_tei.specs.declared.message.TeiMessage.{TeiMessage}
 use Rattle.lapd_tei.specs.declared.out.TeiOut.{TeiOut}
 use Rattle.lapd_tei.specs.declared.out.TeiOut.TheVariants as out
-use Rattle.lapd_tei.specs.Message.{frame_of_message, message_at, permits, group_tei}
+use Rattle.lapd_tei.specs.Message.{frame_of_message, message_at, permits}
 use Rattle.lapd_tei.specs.Out.{sent}
-use Rattle.lapd_table.specs.LinkId.{id_eq, id_of_address}
 use Rattle.lapd_table.specs.Octets.{event_by}
 use Rattle.lapd_sides_links.specs.Effects.{message_sent}
 use Rattle.lapd_sides_links.specs.declared.config.Config.{Config}
-use Rattle.lapd_sides.specs.Management.{carries_message, is_management, is_ui}
+use Rattle.lapd_sides.specs.Management.{carries_message}
 use Rattle.lapd_sides.specs.SideState as sides
 use Rattle.lapd_sides.specs.SideState.{SideState, Rules}
 use Rattle.lapd_sides.specs.User.{User}
-use Rattle.lapd_two_side_laws.specs.Addressed.{is_named, is_for, those_for}
+use Rattle.lapd_two_side_laws.specs.Addressed.{is_named, those_for}
 use Rattle.lapd_side_events.specs.SideView.{SideView, SideEvent, Take, Lose, Expire, Ask, Overhear, left}
-use Rattle.lapd_two_side_laws.proofs.Managed.{and_not}
 use Rattle.lapd_bus_laws.specs.Assignments.{Assignment, assignment_by, assignment_of, assignment_in_frame, assignment_in, is_of_tei, is_sent, holds, is_taken}
 use Rattle.lapd_side_events.specs.Bus.{reached_by}
 use Rattle.lapd_bus_laws.specs.Healing.{message_if_any, message_in_frame, message_in, messages_to, is_about, LosesNoMessage, management_id}
-use Rattle.lapd_bus_laws.proofs.Lists.{none_first, some_second, not_both, false_by, any_removed}
-use Rattle.lapd_bus_laws.proofs.Messages.{message_again, not_for_group}
+use Rattle.lapd_bus_laws.proofs.Lists.{some_second, not_both, false_by, any_removed}
+use Rattle.lapd_bus_laws.proofs.Messages.{frame_holds_none, links_hold_none, message_again}
 
 -- ---- Octets as they were sent.
 
@@ -87,31 +83,12 @@ sent_messages from (out.Doubled t ∷ outs) = sent_messages from outs
 frame_carries_none : (r : Result Fields FrameFault) → is_named management_id (event_by r) ≡ false
     → message_in_frame r ≡ None
 frame_carries_none (Err fault) h = refl
-frame_carries_none (Ok f) h = by_address f.address h
-  where
-    by_address : (a : Address) → id_eq management_id (id_of_address a) ≡ false
-        → (if is_management a.sapi && (is_ui f.control && (a.tei == group_tei)) then message_if_any
-        (message_at f.info) else None) ≡ None
-    by_address a h = by_sapi a.sapi a.tei h
-      where
-        by_sapi : (s : Sapi) (tei : ℕ) → id_eq management_id (record { sapi = s; tei = tei })
-            ≡ false
-            → (if is_management s && (is_ui f.control && (tei == group_tei)) then message_if_any
-            (message_at f.info) else None) ≡ None
-        by_sapi sapi.Call tei h = refl
-        by_sapi sapi.Packet tei h = refl
-        by_sapi sapi.Management tei h = ap (λ (b : Bool).
-            if b then message_if_any (message_at f.info) else None)
-            (and_not (is_ui f.control) (tei == group_tei) (not_for_group tei h))
+frame_carries_none (Ok f) h = frame_holds_none message_if_any f h
 
 pub links_carry_none : (from : Side) (frames : List (List ℕ))
     → those_for from management_id frames ≡ [] → Carried from frames ≡ []
-links_carry_none from [] none = refl
-links_carry_none from (octets ∷ frames) none =
-    let two = none_first (is_for from management_id) octets frames none in
-    ap (λ (o : Option TeiMessage). cons_option o (Carried from frames))
-    (frame_carries_none (frame_at from octets) two.0)
-    ∙ links_carry_none from frames two.1
+links_carry_none from frames none =
+    links_hold_none from message_in_frame frame_carries_none frames none
 
 -- ---- A side takes a message.
 

@@ -3,45 +3,51 @@ use Rattle.std.proofs.Common.{◌≡◌, ◌⊎◌, inl, inr, ℕ, ◌==◌, ◌
 use Rattle.std.specs.Prelude.{slice_get, filter, ◌||◌, is_some}
 use Rattle.std.specs.List.{list_any, remove}
 use Rattle.std.proofs.lemmas.Bool.Decides.{nat_tests}
-use Rattle.lapd_frame.specs.declared.Side.{Side}
 use Rattle.lapd_frame.specs.declared.Side.TheVariants as side
-use Rattle.lapd_frame.specs.Address.{other_side}
 use Rattle.lapd_tei.specs.declared.out.TeiOut.TheVariants as outcome
 use Rattle.lapd_tei.specs.Terminal.{tei_of, new_terminal}
 use Rattle.lapd_table.specs.declared.link_id.LinkId.{LinkId}
 use Rattle.lapd_sides_links.specs.declared.primitive.Primitive.{Primitive}
 use Rattle.lapd_sides_links.specs.declared.primitive.Primitive.TheVariants.{Of, Management}
 use Rattle.lapd_sides.specs.User.{User, has_tei}
-use Rattle.lapd_two_side_laws.specs.Addressed.{is_for, is_poll_for, is_final_for}
+use Rattle.lapd_two_side_laws.specs.Addressed.{is_for}
 use Rattle.lapd_side_events.specs.Interface.{Configs, user_behaviour, network_behaviour}
-use Rattle.lapd_two_side_laws.specs.Premises.{is_assignment, IsTimely}
+use Rattle.lapd_two_side_laws.specs.Premises.{is_assignment}
 use Rattle.lapd_side_events.specs.SideView.{SideView, SideEvent, Take, Lose, Expire, Ask, Overhear, reaction, does}
 use Rattle.lapd_two_side_laws.proofs.Managed.{neither}
+use Rattle.lapd_link_definition.proofs.Sending.{both_true}
+use Rattle.lapd_two_side_laws.proofs.MoveTests.{not_so, is_timely, is_timely_so}
 use Rattle.lapd_bus_laws.specs.Assignments.{holds, awaited, awaits, is_answered, claims, is_taken, IsSingle, IsHeldOnce}
-use Rattle.lapd_side_events.specs.Bus.{Bus, BusEvent, OfTerminal, OfNetwork, Join, Restart, NewTerminal, connected, new_bus, OverhearsNothing, on_line_of, bus_step}
-use Rattle.lapd_bus_laws.specs.Holdings.{AssignsFree, IsOwnReference, RequestsByItsOwn, RequestsUnanswered, JoinsWithFree, IsOfBus, KeepsTeisApart, Assigns, IsOnlyClaimant, IsClear, LeavesAlone, KeepsHolding}
-use Rattle.lapd_bus_laws.specs.Links.{Throughout, IsTimelyFor, AssignsOthers}
-use Rattle.lapd_bus_laws.proofs.Lists.{both_so, map_back, any_at, any_other, either_some}
+use Rattle.lapd_side_events.specs.Bus.{Bus, BusEvent, OfTerminal, OfNetwork, Join, Restart, NewTerminal, connected, new_bus, OverhearsNothing, on_line_of, bus_step, after_events}
+use Rattle.lapd_bus_laws.specs.Holdings.{AssignsFree, IsOwnReference, RequestsByItsOwn, RequestsUnanswered, JoinsWithFree, IsOfBus, KeepsTeisApart, IsReached, Assigns, IsOnlyClaimant, IsClear, LeavesAlone, KeepsHolding}
+use Rattle.lapd_bus_laws.specs.Links.{ThroughoutBy, Throughout, IsTimelyFor, AssignsOthers}
+use Rattle.lapd_bus_laws.proofs.Lists.{map_back, any_at, any_other, either_some}
 use Rattle.lapd_side_events.proofs.Indices.{apart_index}
 use Rattle.lapd_bus_laws.proofs.PremisesOfInterface.{has_not, has_so}
-
-not_so : (a : Bool) → not a ≡ true → a ≡ false
-not_so true h = cc
-not_so false h = refl
+use Rattle.lapd_bus_laws.proofs.TerminalsApart.{new_are_apart}
 
 -- ---- Any premise.
 
+module _ (step : BusEvent → Bus → Bus) where
+  abbrev pub passes_by : (BusEvent → Bus → Bool) → List BusEvent → Bus → Bool
+  passes_by test [] b = true
+  passes_by test (e ∷ es) b = test e b && passes_by test es (step e b)
+
+  pub throughout_so : (P : BusEvent → Bus → Type 0) (test : BusEvent → Bus → Bool)
+      → ((e : BusEvent) (b : Bus) → test e b ≡ true → P e b) → (events : List BusEvent) (b : Bus)
+      → passes_by test events b ≡ true → ThroughoutBy step P events b
+  throughout_so P test sound [] b h = tt
+  throughout_so P test sound (e ∷ es) b h =
+      let two = both_true (test e b) (passes_by test es (step e b)) h in
+      (sound e b two.0, throughout_so P test sound es (step e b) two.1)
+
 abbrev pub passes : Configs → (BusEvent → Bus → Bool) → List BusEvent → Bus → Bool
-passes c test [] b = true
-passes c test (e ∷ es) b = test e b && passes c test es (bus_step c e b)
+passes c test events b = passes_by (bus_step c) test events b
 
 pub throughout_by : (c : Configs) (P : BusEvent → Bus → Type 0) (test : BusEvent → Bus → Bool)
     → ((e : BusEvent) (b : Bus) → test e b ≡ true → P e b) → (events : List BusEvent) (b : Bus)
     → passes c test events b ≡ true → Throughout c P events b
-throughout_by c P test sound [] b h = tt
-throughout_by c P test sound (e ∷ es) b h =
-    let two = both_so (test e b) (passes c test es (bus_step c e b)) h in
-    (sound e b two.0, throughout_by c P test sound es (bus_step c e b) two.1)
+throughout_by c P test sound events b h = throughout_so (bus_step c) P test sound events b h
 
 -- a test of the terminal at an index, if it exists
 abbrev pub where_there : (SideView User → Bool) → Option (SideView User) → Bool
@@ -87,7 +93,7 @@ pub leaves_alone_so : (tei i : ℕ) (e : BusEvent) (b : Bus) → leaves_alone te
 leaves_alone_so tei i (OfTerminal j event) b h = overhears_nothing_so event h
 leaves_alone_so tei i (OfNetwork j event) b h = overhears_nothing_so event h
 leaves_alone_so tei i (Join j new) b h =
-    let two = both_so (not (j == i)) (not (has_tei tei new.fixed)) h in
+    let two = both_true (not (j == i)) (not (has_tei tei new.fixed)) h in
     (apart_index j i (not_so (j == i) two.0), has_not tei new.fixed (not_so _ two.1))
 leaves_alone_so tei i (Restart known) b h = cc
 
@@ -108,7 +114,7 @@ free_one tei t ps ts is free =
     let same : t ≡ tei = grind (arith, nat_tests, is) in
     subst (λ n.
     list_any (is_taken n) ts ≡ false) same (not_so (list_any (is_taken t) ts)
-    (both_so (is_free t ts) (all_free ps ts) free).0)
+    (both_true (is_free t ts) (all_free ps ts) free).0)
 
 all_free_so : (tei : ℕ) (ps : List Primitive) (ts : List (SideView User)) → all_free ps ts ≡ true
     → list_any (is_assignment tei) ps ≡ true → list_any (is_taken tei) ts ≡ false
@@ -117,12 +123,12 @@ all_free_so tei (Of id w ∷ ps) ts free h = all_free_so tei ps ts free h
 all_free_so tei (Management (outcome.Given t) ∷ ps) ts free h =
     elim (either_some (t == tei) (list_any (is_assignment tei) ps) h) [
       | inl is ↦ free_one tei t ps ts is free
-      | inr rest ↦ all_free_so tei ps ts (both_so (is_free t ts) (all_free ps ts) free).1 rest
+      | inr rest ↦ all_free_so tei ps ts (both_true (is_free t ts) (all_free ps ts) free).1 rest
     ]
 all_free_so tei (Management (outcome.Got t) ∷ ps) ts free h =
     elim (either_some (t == tei) (list_any (is_assignment tei) ps) h) [
       | inl is ↦ free_one tei t ps ts is free
-      | inr rest ↦ all_free_so tei ps ts (both_so (is_free t ts) (all_free ps ts) free).1 rest
+      | inr rest ↦ all_free_so tei ps ts (both_true (is_free t ts) (all_free ps ts) free).1 rest
     ]
 all_free_so tei (Management (outcome.Free t) ∷ ps) ts free h = all_free_so tei ps ts free h
 all_free_so tei (Management (outcome.Doubled t) ∷ ps) ts free h = all_free_so tei ps ts free h
@@ -185,7 +191,7 @@ module _ (c : Configs) where
       (has_tei n old ≡ true) ⊎ IsOwnReference n i t b) same
       (elim (either_some (has_tei r old) (is_own r i t b) h) [
         | inl before ↦ inl before
-        | inr own ↦ (let two = both_so (not (list_any (awaits r) (remove b.terminals i)))
+        | inr own ↦ (let two = both_true (not (list_any (awaits r) (remove b.terminals i)))
             (not (is_answered r t)) own in inr (record {
               others = not_so _ two.0;
               unanswered =
@@ -244,9 +250,9 @@ module _ (c : Configs) where
   pub keeps_teis_apart_so : (e : BusEvent) (b : Bus) → keeps_teis_apart e b ≡ true
       → KeepsTeisApart c e b
   keeps_teis_apart_so e b h =
-      let one = both_so (of_bus e b) _ h in
-      let two = both_so (assigns_free e b) _ one.1 in
-      let three = both_so (requests_by_its_own e b) (joins_with_free e b) two.1 in
+      let one = both_true (of_bus e b) _ h in
+      let two = both_true (assigns_free e b) _ one.1 in
+      let three = both_true (requests_by_its_own e b) (joins_with_free e b) two.1 in
       record {
         of_bus = of_bus_so e b one.0;
         assigns = assigns_free_so e b two.0;
@@ -255,23 +261,6 @@ module _ (c : Configs) where
       }
 
   -- ---- T200, and all premises of a holding.
-
-  abbrev is_timely : {S : Type 0} → Side → LinkId → SideEvent → SideView S → Bool
-  is_timely s id (Expire timer of now) v = not (list_any (is_poll_for s id) v.outgoing) && not
-      (list_any (is_final_for (other_side s) id) v.incoming)
-  is_timely s id (Overhear octets now) v = false
-  is_timely s id event v = true
-
-  is_timely_so : {S : Type 0} (s : Side) (id : LinkId) (event : SideEvent) (v : SideView S)
-      → is_timely s id event v ≡ true → IsTimely s id event v
-  is_timely_so s id (Take now) v h = tt
-  is_timely_so s id (Lose at) v h = tt
-  is_timely_so s id (Expire timer of now) v h = λ its own.
-      (let two = both_so (not (list_any (is_poll_for s id) v.outgoing))
-      (not (list_any (is_final_for (other_side s) id) v.incoming)) h in
-      (not_so _ two.0, not_so _ two.1))
-  is_timely_so s id (Ask request now) v h = tt
-  is_timely_so s id (Overhear octets now) v h = cc
 
   abbrev pub timely_for : LinkId → ℕ → BusEvent → Bus → Bool
   timely_for id i (OfTerminal j event) b = where_there (λ t.
@@ -291,7 +280,7 @@ module _ (c : Configs) where
   timely_for_so id i (Join j new) b h = tt
   timely_for_so id i (Restart known) b h = tt
 
-  own_is_unanswered : (e : BusEvent) (b : Bus) → RequestsByItsOwn c e b → RequestsUnanswered c e b
+  pub own_is_unanswered : (e : BusEvent) (b : Bus) → RequestsByItsOwn c e b → RequestsUnanswered c e b
   own_is_unanswered (OfTerminal i event) b own = λ t at ri waits. elim (own t at ri waits) [
     | inl before ↦ inl before
     | inr new ↦ inr new.unanswered
@@ -307,9 +296,9 @@ module _ (c : Configs) where
   pub keeps_holding_so : (id : LinkId) (i : ℕ) (e : BusEvent) (b : Bus) → keeps_holding id i e b
       ≡ true → KeepsHolding c id i e b
   keeps_holding_so id i e b h =
-      let one = both_so (leaves_alone id.tei i e b) _ h in
-      let two = both_so (timely_for id i e b) _ one.1 in
-      let three = both_so (assigns_others id.tei e b) (requests_by_its_own e b) two.1 in
+      let one = both_true (leaves_alone id.tei i e b) _ h in
+      let two = both_true (timely_for id i e b) _ one.1 in
+      let three = both_true (assigns_others id.tei e b) (requests_by_its_own e b) two.1 in
       record {
         leaves = leaves_alone_so id.tei i e b one.0;
         timely = timely_for_so id i e b two.0;
@@ -337,6 +326,24 @@ module _ (c : Configs) where
           is_some n.fixed) terminals k m.0 none m.1)
           (subst (λ (x : SideView User). holds tei x ≡ true) (sym m.2) h)
 
+  -- events that keep the premises lead there from terminals without fixed TEIs
+  pub reached_from_none : (known : List ℕ) (terminals : List NewTerminal)
+      → list_any (λ (n : NewTerminal). is_some n.fixed) terminals ≡ false
+      → (events : List BusEvent)
+      → passes c keeps_teis_apart events (new_bus c known terminals) ≡ true
+      → IsReached c (after_events c events (new_bus c known terminals))
+  reached_from_none known terminals none events apart = record {
+    known = known;
+    terminals = terminals;
+    before = [];
+    of_bus = tt;
+    start = new_are_apart c known terminals (no_fixed_is_single known terminals none);
+    events = events;
+    apart = throughout_by c (KeepsTeisApart c) keeps_teis_apart keeps_teis_apart_so events
+        (new_bus c known terminals) apart;
+    reached = refl;
+  }
+
 abbrev holds_at : ℕ → Option (SideView User) → Bool
 holds_at tei None = false
 holds_at tei (Some t) = holds tei t
@@ -351,10 +358,10 @@ both_hold_it tei b h once = by (slice_get b.terminals 0) (slice_get b.terminals 
     by : (o p : Option (SideView User)) → slice_get b.terminals 0 ≡ o → slice_get b.terminals 1 ≡ p
         → (holds_at tei o && holds_at tei p) ≡ true → ⊥
     by None p first second h = cc
-    by (Some t) None first second h = (let two = both_so (holds tei t) false h in let no = two.1 in
+    by (Some t) None first second h = (let two = both_true (holds tei t) false h in let no = two.1 in
         cc)
     by (Some t) (Some u) first second h =
-        let two = both_so (holds tei t) (holds tei u) h in
+        let two = both_true (holds tei t) (holds tei u) h in
         let same : 0 ≡ 1 = once 0 1 t u first second two.0 two.1 in
         omega (arith, same)
 
@@ -404,7 +411,7 @@ is_clear id i b = not (list_any (has_octets id) b.terminals) && where_there
 
 pub is_clear_so : (id : LinkId) (i : ℕ) (b : Bus) → is_clear id i b ≡ true → IsClear id i b
 is_clear_so id i b h =
-    let two = both_so (not (list_any (has_octets id) b.terminals)) _ h in
+    let two = both_true (not (list_any (has_octets id) b.terminals)) _ h in
     record {
       to_network = λ k t there.
           filter_none (is_for side.User id) t.outgoing (any_at (has_octets id) b.terminals k t

@@ -18,7 +18,8 @@ use Rattle.lapd_side_events.specs.SideView.{SideView, SideEvent, Take, Lose, Exp
 use Rattle.lapd_bus_laws.specs.Assignments.{Assignment, assignment_in, assignments, holds, is_of_tei, is_sent, awaited, awaits, has_reference, is_answered, is_offer, claims, is_taken}
 use Rattle.lapd_side_events.specs.Bus.{OverhearsNothing, reached_by}
 use Rattle.lapd_bus_laws.proofs.Assigns.{AssignsOne}
-use Rattle.lapd_bus_laws.proofs.Lists.{both_so, either_some, some_first, some_second, not_both, any_weaker, any_dropped, any_removed}
+use Rattle.lapd_link_definition.proofs.Sending.{both_true}
+use Rattle.lapd_bus_laws.proofs.Lists.{either_some, some_first, some_second, not_both, any_weaker, any_dropped, any_removed}
 use Rattle.lapd_bus_laws.proofs.Obtains.{FirstAnswers, TakesAnswer, event_obtains}
 use Rattle.lapd_bus_laws.proofs.PremisesOfInterface.{has_so}
 
@@ -28,7 +29,7 @@ and_so : (a b : Bool) → a ≡ true → b ≡ true → (a && b) ≡ true
 and_so true b h g = g
 and_so false b h g = cc
 
-has_itself : (t : ℕ) (o : Option ℕ) → o ≡ Some t → has_tei t o ≡ true
+pub has_itself : (t : ℕ) (o : Option ℕ) → o ≡ Some t → has_tei t o ≡ true
 has_itself t o is = rw is (let e : (t == t) ≡ true = grind (arith, nat_tests) in e)
 
 pub same_tei : (n : ℕ) → (n == n) ≡ true
@@ -58,7 +59,7 @@ claim_is_taken tei t h = elim (either_some (holds tei t)
       | inr offered ↦ some_second (holds tei t) (is_sent tei t)
           (any_weaker (is_offer tei t.now.management.terminal) (is_of_tei tei) (assignments t)
           (λ a is.
-          (both_so (is_of_tei tei a) (has_tei a.reference (awaited t.now.management.terminal))
+          (both_true (is_of_tei tei a) (has_tei a.reference (awaited t.now.management.terminal))
           is).0) offered)
     ]
 
@@ -120,20 +121,20 @@ module _ (c : Configs) (event : SideEvent) (t : SideView User) (ok : OverhearsNo
           line
           (λ a offer.
           absurd (has_not_none a.reference (ap (has_tei a.reference) (sym is)
-          ∙ (both_so (is_of_tei tei a) (has_tei a.reference (awaited phase)) offer).1))) h
+          ∙ (both_true (is_of_tei tei a) (has_tei a.reference (awaited phase)) offer).1))) h
         where
           has_not_none : (ri : ℕ) → has_tei ri None ≡ true → ⊥
           has_not_none ri is = cc
       offer_by tei phase old (Some ri) line is asks h = elim (asks ri refl) [
         | inl before ↦ any_weaker (is_offer tei phase) (is_offer tei old) line
             (λ a offer.
-            let two = both_so (is_of_tei tei a) (has_tei a.reference (awaited phase)) offer in
+            let two = both_true (is_of_tei tei a) (has_tei a.reference (awaited phase)) offer in
             and_so (is_of_tei tei a) (has_tei a.reference (awaited old)) two.0
             (ap (has_tei a.reference) (before ∙ sym is) ∙ two.1)) h
         | inr none ↦ absurd (not_both (list_any (has_reference ri) line)
             (any_weaker (is_offer tei phase) (has_reference ri) line
             (λ a offer.
-            let two = both_so (is_of_tei tei a) (has_tei a.reference (awaited phase)) offer in
+            let two = both_true (is_of_tei tei a) (has_tei a.reference (awaited phase)) offer in
             same_reference a.reference (ap (has_tei a.reference) (sym is) ∙ two.1)) h) none)
       ]
         where
@@ -199,7 +200,7 @@ claims_with tei t x h = elim (either_some (holds tei t) _ h) [
       (sym (list_any-append (is_offer tei t.now.management.terminal)
       (assignments t) (x ∷ [])) ∙ offered)) [
         | inl before ↦ inl (some_second (holds tei t) _ before)
-        | inr new ↦ (let two = both_so (is_of_tei tei x)
+        | inr new ↦ (let two = both_true (is_of_tei tei x)
             (has_tei x.reference (awaited t.now.management.terminal))
             (or_none (is_offer tei t.now.management.terminal x) new) in
             inr ((let e = two.0 in grind (arith, nat_tests, e)), two.1))

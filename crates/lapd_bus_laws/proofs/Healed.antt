@@ -31,7 +31,8 @@ use Rattle.lapd_bus_laws.proofs.Assigning.{PassesAssigner, StepsAssigner, IsRequ
 use Rattle.lapd_bus_laws.proofs.Assigns.{AssignsAtMostOne, event_assigns}
 use Rattle.lapd_bus_laws.proofs.Carried.{HasLast, passes_none, none_passes, last_any, last_left, about_names, assigned_on}
 use Rattle.lapd_bus_laws.proofs.CheckRows.{AssignsNone, step_assigns_once, heard_row, RequestedRow, requested_check_row, requested_removal_row, ExpiredRow, expired_row, begins_row}
-use Rattle.lapd_bus_laws.proofs.Lists.{both_so, Each, Others, each_set, each_map, others_set, others_map, any_at, any_other, any_weaker, either_some, some_first, not_both}
+use Rattle.lapd_link_definition.proofs.Sending.{both_true}
+use Rattle.lapd_bus_laws.proofs.Lists.{Each, Others, each_set, each_map, others_set, others_map, any_at, any_other, any_weaker, either_some, some_first, not_both}
 use Rattle.lapd_side_events.proofs.Indices.{equal_index, apart_index}
 use Rattle.lapd_bus_laws.proofs.Single.{no_management}
 use Rattle.lapd_bus_laws.proofs.PremisesOfInterface.{has_so}
@@ -705,7 +706,7 @@ module _ (c : Configs) (tei : ℕ) (low : tei < 127) where
       its j t there (inl line) held = absurd (not_both (is_sent tei t)
           (assigned_on tei t.incoming
           ∙ any_weaker (IsAnswer tei ri) (IsAssigned tei) (messages_to t)
-          (λ m passes. (both_so (IsAssigned tei m) (m.ri == ri) passes).0)
+          (λ m passes. (both_true (IsAssigned tei m) (m.ri == ri) passes).0)
           (last_any (IsAnswer tei ri) (IsAssigned tei) (messages_to t) line))
           (any_at (is_sent tei) b.terminals j t rest there))
       its j t there (inr (unsent, by)) held = by held

@@ -11,18 +11,17 @@ use Rattle.lapd_tei.specs.Terminal.{reference_of}
 use Rattle.lapd_sides.specs.User.{User, has_tei}
 use Rattle.lapd_side_events.specs.Interface.{Configs}
 use Rattle.lapd_side_events.specs.SideView.{SideView, SideEvent, Take, Lose, Expire, Ask, Overhear}
+use Rattle.lapd_link_definition.proofs.Sending.{both_true}
+use Rattle.lapd_two_side_laws.proofs.MoveTests.{not_so}
 use Rattle.lapd_bus_laws.specs.Assignments.{claims, awaits}
 use Rattle.lapd_side_events.specs.Bus.{Bus, BusEvent, OfTerminal, OfNetwork, Join, Restart}
 use Rattle.lapd_bus_laws.specs.Healing.{message_in, has_incoming, has_outgoing, LosesNoMessage, DeliversMessages, WaitsForResponses, CarriesCheckOn, Heals, IsCheckOver, ReferencesDiffer}
 use Rattle.lapd_bus_laws.specs.Holdings.{AreApart}
 use Rattle.lapd_bus_laws.proofs.Checks.{where_there, there_so, of_bus, of_bus_so, joins_with_free, joins_with_free_so}
-use Rattle.lapd_bus_laws.proofs.Lists.{both_so, Unique, any_at, not_both, any_other}
+use Rattle.lapd_bus_laws.proofs.Claims.{has_itself}
+use Rattle.lapd_bus_laws.proofs.Lists.{Unique, any_at, not_both, any_other}
 use Rattle.lapd_side_events.proofs.Indices.{equal_index, apart_index}
 use Rattle.lapd_bus_laws.proofs.PremisesOfInterface.{has_not}
-
-not_so : (a : Bool) → not a ≡ true → a ≡ false
-not_so true h = cc
-not_so false h = refl
 
 -- ---- Messages are delivered.
 
@@ -84,7 +83,7 @@ waits_so : (tei : ℕ) (event : SideEvent) (b : Bus) → waits tei event b ≡ t
 waits_so tei (Take now) b h = tt
 waits_so tei (Lose at) b h = tt
 waits_so tei (Expire timer None now) b h = λ its.
-    (let two = both_so (not (list_any (has_incoming kind.CheckRequest tei) b.terminals))
+    (let two = both_true (not (list_any (has_incoming kind.CheckRequest tei) b.terminals))
     (not (list_any (has_outgoing kind.CheckResponse tei) b.terminals)) h in
     record { requests = not_so _ two.0; responses = not_so _ two.1 })
 waits_so tei (Expire timer (Some id) now) b h = tt
@@ -111,9 +110,9 @@ module _ (c : Configs) where
 
   pub heals_so : (tei : ℕ) (e : BusEvent) (b : Bus) → heals tei e b ≡ true → Heals tei e b
   heals_so tei e b h =
-      let one = both_so (of_bus e b) _ h in
-      let two = both_so (delivers tei e b) _ one.1 in
-      let three = both_so (carries_on tei e b) (joins_with_free c e b) two.1 in
+      let one = both_true (of_bus e b) _ h in
+      let two = both_true (delivers tei e b) _ one.1 in
+      let three = both_true (carries_on tei e b) (joins_with_free c e b) two.1 in
       record {
         of_bus = of_bus_so e b one.0;
         delivers = delivers_so tei e b two.0;
@@ -128,7 +127,7 @@ is_over tei b = not (has_check tei b) && not (list_any (has_incoming kind.Remove
 
 pub is_over_so : (tei : ℕ) (b : Bus) → is_over tei b ≡ true → IsCheckOver tei b
 is_over_so tei b h =
-    let two = both_so (not (has_check tei b)) _ h in
+    let two = both_true (not (has_check tei b)) _ h in
     record {
       ended = has_not tei (checked b.network.management.check) (not_so (has_check tei b) two.0);
       removals = not_so _ two.1;
@@ -147,13 +146,6 @@ abbrev all_differ : List (SideView User) → Bool
 all_differ [] = true
 all_differ (t ∷ ts) = is_unlike (reference_of t.now.management.terminal) ts && all_differ ts
 
-has_itself : (ri : ℕ) (o : Option ℕ) → o ≡ Some ri → has_tei ri o ≡ true
-has_itself ri o is = by (has_tei ri o) refl
-  where
-    by : (test : Bool) → has_tei ri o ≡ test → has_tei ri o ≡ true
-    by true h = h
-    by false h = absurd (has_not ri o h is)
-
 abbrev LastIs : ℕ → SideView User → Type 0
 LastIs ri t = reference_of t.now.management.terminal ≡ Some ri
 
@@ -171,17 +163,17 @@ all_differ_so : (ts : List (SideView User)) → all_differ ts ≡ true → (ri :
 all_differ_so [] h ri i j t u hi hj ti uj = cc
 all_differ_so (t ∷ ts) h ri zero zero x y hi hj xi yj = refl
 all_differ_so (t ∷ ts) h ri zero (suc j) x y hi hj xi yj =
-    let two = both_so (is_unlike (reference_of t.now.management.terminal) ts) _ h in
+    let two = both_true (is_unlike (reference_of t.now.management.terminal) ts) _ h in
     let e : t ≡ x = cc in
     absurd (unlike_so ri (reference_of t.now.management.terminal) ts
     (subst (LastIs ri) (sym e) xi) two.0 j y hj yj)
 all_differ_so (t ∷ ts) h ri (suc i) zero x y hi hj xi yj =
-    let two = both_so (is_unlike (reference_of t.now.management.terminal) ts) _ h in
+    let two = both_true (is_unlike (reference_of t.now.management.terminal) ts) _ h in
     let e : t ≡ y = cc in
     absurd (unlike_so ri (reference_of t.now.management.terminal) ts
     (subst (LastIs ri) (sym e) yj) two.0 i x hi xi)
 all_differ_so (t ∷ ts) h ri (suc i) (suc j) x y hi hj xi yj =
-    let two = both_so (is_unlike (reference_of t.now.management.terminal) ts) _ h in
+    let two = both_true (is_unlike (reference_of t.now.management.terminal) ts) _ h in
     ap suc (all_differ_so ts two.1 ri i j x y hi hj xi yj)
 
 abbrev pub references_differ : Bus → Bool

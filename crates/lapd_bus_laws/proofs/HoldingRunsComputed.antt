@@ -1,9 +1,9 @@
 -- The worked runs of a holding, computed. Each ends in a state that is not right.
-use Rattle.std.proofs.Common.{◌≡◌, inl, inr, ℕ, List, [], ◌∷◌, Bool, true, false, Option, Some, None, refl, sym, subst, arith}
+use Rattle.std.proofs.Common.{◌≡◌, inl, inr, ℕ, List, [], ◌∷◌, Bool, true, false, Option, Some, None, refl, subst, arith}
 use Rattle.std.specs.Prelude.{Vec, slice_get}
 use Rattle.std.specs.List.{list_any}
 use Rattle.std.specs.declared.alloc.Global.{Global}
-use Rattle.lapd_link_definition.specs.Procedures.{start}
+use Rattle.lapd_table.specs.declared.link_id.LinkId.{LinkId}
 use Rattle.lapd_sides.specs.User.{User}
 use Rattle.lapd_link_definition.specs.declared.out.Letter.{Letter}
 use Rattle.lapd_link_definition.specs.declared.out.Letter.TheVariants as letter
@@ -14,86 +14,59 @@ use Rattle.lapd_sides_links.specs.declared.primitive.What.TheVariants as what
 use Rattle.lapd_two_side_laws.specs.Primitives.{link_primitives, given_to, known_of, IsReceived, IsExpectedOfLink, AreExpectedOfLink}
 use Rattle.lapd_two_side_laws.specs.Schedule.{configs, call, IsMessage}
 use Rattle.lapd_side_events.specs.SideView.{SideView}
-use Rattle.lapd_two_side_laws.proofs.Computed.{Fits, holding, with_both, one_of, differ, received_as}
+use Rattle.lapd_two_side_laws.proofs.Computed.{Fits, holding, with_both, first_for_second, second_for_first}
 use Rattle.lapd_side_events.specs.Bus.{Bus, from_now, bus_step, after_events}
 use Rattle.lapd_bus_laws.specs.HoldingRuns.{IsReceivedByTerminal, IsReceivedByNetwork, KeepsAllButT200, KeepsAllButAssigning, KeepsAllButRequesting, KeepsAllButLeaving, joined, replaced, restarted, from_first, hasty, regained, leaves_sabme, assigns_second, with_old_sabme, answers_old, from_twins, taken_twice}
 use Rattle.lapd_bus_laws.specs.Holdings.{RequestsByItsOwn, KeepsTeisApart, IsReached, Assigns, IsOnlyClaimant, LeavesAlone, KeepsHolding}
 use Rattle.lapd_bus_laws.specs.Links.{Throughout, IsTimelyFor, AssignsOthers, IsNobodyElses}
-use Rattle.lapd_bus_laws.specs.Runs.{two_terminals, waiting_terminal, other_random}
-use Rattle.lapd_bus_laws.proofs.TerminalsApart.{new_are_apart}
-use Rattle.lapd_bus_laws.proofs.Checks.{throughout_by, leaves_alone, leaves_alone_so, timely_for, timely_for_so, assigns_others, assigns_others_so, requests_by_its_own, requests_by_its_own_so, keeps_teis_apart, keeps_teis_apart_so, keeps_holding, keeps_holding_so, no_fixed_is_single, assigns_now_so, only_claimant_so}
+use Rattle.lapd_bus_laws.specs.Runs.{waiting_terminal, other_random}
+use Rattle.lapd_bus_laws.proofs.Checks.{throughout_by, leaves_alone, leaves_alone_so, timely_for, timely_for_so, assigns_others, assigns_others_so, requests_by_its_own, requests_by_its_own_so, keeps_teis_apart_so, keeps_holding, keeps_holding_so, reached_from_none, assigns_now_so, only_claimant_so}
 use Rattle.lapd_bus_laws.proofs.Lists.{either_some}
 use Rattle.lapd_sides.specs.Worked as sides
 use Rattle.lapd_two_side_laws.proofs.ComputedEvents.{computed_events}
 
 -- ---- The messages that a terminal received and submitted, and its knowledge, if it exists.
 
-abbrev received_at : Option (SideView User) → List (List ℕ)
-received_at None = []
-received_at (Some t) = (known_of call t.delivered).received
+module _ (id : LinkId) where
+  abbrev pub received_at : Option (SideView User) → List (List ℕ)
+  received_at None = []
+  received_at (Some t) = (known_of id t.delivered).received
 
-abbrev given_at : Option (SideView User) → List (List ℕ)
-given_at None = []
-given_at (Some t) = given_to call t.given
+  abbrev pub given_at : Option (SideView User) → List (List ℕ)
+  given_at None = []
+  given_at (Some t) = given_to id t.given
 
-abbrev acked_at : Option (SideView User) → List ℕ
-acked_at None = []
-acked_at (Some t) = (known_of call t.delivered).acked
+  abbrev pub acked_at : Option (SideView User) → List ℕ
+  acked_at None = []
+  acked_at (Some t) = (known_of id t.delivered).acked
+
+  -- the first message counts as acknowledged, and the second alone was received
+  pub not_by_network : (b : Bus) → given_at (slice_get b.terminals 0) ≡ two_messages
+      → acked_at (slice_get b.terminals 0) ≡ 0 ∷ []
+      → (known_of id b.delivered).received ≡ (2 ∷ []) ∷ [] → IsReceivedByNetwork id 0 b → ⊥
+  not_by_network b given acked received h = by (slice_get b.terminals 0) refl given acked
+    where
+      by : (o : Option (SideView User)) → slice_get b.terminals 0 ≡ o → given_at o ≡ two_messages
+          → acked_at o ≡ 0 ∷ [] → ⊥
+      by None at is acks = cc
+      by (Some t) at is acks = second_for_first _ _ _ is acks received (h t at)
 
 abbrev delivered_at : Option (SideView User) → List What
 delivered_at None = []
 delivered_at (Some t) = link_primitives call t.delivered
 
--- the second message counts as acknowledged, and the first alone was received
-not_by_terminal : (b : Bus) → given_to call b.given ≡ two_messages
-    → (known_of call b.delivered).acked ≡ 1 ∷ [] → received_at (slice_get b.terminals 0)
-    ≡ one_message → IsReceivedByTerminal call 0 b → ⊥
-not_by_terminal b given acked received h = by (slice_get b.terminals 0) refl received
+-- the terminal received these messages, which is not right
+not_by_terminal : (b : Bus) (message : List ℕ) (more : List (List ℕ))
+    → received_at call (slice_get b.terminals 0) ≡ message ∷ more
+    → ((received : List (List ℕ)) → received ≡ message ∷ more
+    → IsReceived (given_to call b.given) (known_of call b.delivered).acked received → ⊥)
+    → IsReceivedByTerminal call 0 b → ⊥
+not_by_terminal b message more is wrong h = by (slice_get b.terminals 0) refl is
   where
-    by : (o : Option (SideView User)) → slice_get b.terminals 0 ≡ o → received_at o ≡ one_message
-        → ⊥
+    by : (o : Option (SideView User)) → slice_get b.terminals 0 ≡ o
+        → received_at call o ≡ message ∷ more → ⊥
     by None at is = cc
-    by (Some t) at is =
-        let plain : IsReceived two_messages (1 ∷ []) one_message =
-        received_as _ two_messages _ (1 ∷ []) _ one_message (sym given) (sym acked) (sym is)
-        (h t at) in
-        differ (sym (one_of (λ place.
-        slice_get two_messages place) (Some (1 ∷ [])) plain.places 1 plain.same
-        (plain.acknowledged 1 (inl refl))))
-
--- the first message counts as acknowledged, and the second alone was received
-not_by_network : (b : Bus) → given_at (slice_get b.terminals 0) ≡ two_messages
-    → acked_at (slice_get b.terminals 0) ≡ 0 ∷ [] → (known_of call b.delivered).received
-    ≡ (2 ∷ []) ∷ [] → IsReceivedByNetwork call 0 b → ⊥
-not_by_network b given acked received h = by (slice_get b.terminals 0) refl given acked
-  where
-    by : (o : Option (SideView User)) → slice_get b.terminals 0 ≡ o → given_at o ≡ two_messages
-        → acked_at o ≡ 0 ∷ [] → ⊥
-    by None at is acks = cc
-    by (Some t) at is acks =
-        let plain : IsReceived two_messages (0 ∷ []) ((2 ∷ []) ∷ []) =
-        received_as _ two_messages _ (0 ∷ []) _ ((2 ∷ []) ∷ []) (sym is) (sym acks)
-        (sym received) (h t at) in
-        differ (one_of (λ place.
-        slice_get two_messages place) (Some (2 ∷ [])) plain.places 0 plain.same
-        (plain.acknowledged 0 (inl refl)))
-
--- the same in the other direction
-first_not_by_terminal : (b : Bus) → given_to call b.given ≡ two_messages
-    → (known_of call b.delivered).acked ≡ 0 ∷ [] → received_at (slice_get b.terminals 0)
-    ≡ (2 ∷ []) ∷ [] → IsReceivedByTerminal call 0 b → ⊥
-first_not_by_terminal b given acked received h = by (slice_get b.terminals 0) refl received
-  where
-    by : (o : Option (SideView User)) → slice_get b.terminals 0 ≡ o → received_at o ≡ (2 ∷ []) ∷ []
-        → ⊥
-    by None at is = cc
-    by (Some t) at is =
-        let plain : IsReceived two_messages (0 ∷ []) ((2 ∷ []) ∷ []) =
-        received_as _ two_messages _ (0 ∷ []) _ ((2 ∷ []) ∷ []) (sym given) (sym acked) (sym is)
-        (h t at) in
-        differ (one_of (λ place.
-        slice_get two_messages place) (Some (2 ∷ [])) plain.places 0 plain.same
-        (plain.acknowledged 0 (inl refl)))
+    by (Some t) at is = wrong (known_of call t.delivered).received is (h t at)
 
 -- an error that no lost frame leads to
 abbrev is_unexpected_letter : Letter → Bool
@@ -154,7 +127,7 @@ pub record Hasty (first second : Vec ℕ Global) : Type 0 where
       ≡ two_messages
   pub acked : (known_of call (after_events configs (hasty first second) from_first).delivered).acked
       ≡ 1 ∷ []
-  pub received : received_at (slice_get (after_events configs (hasty first second)
+  pub received : received_at call (slice_get (after_events configs (hasty first second)
       from_first).terminals 0) ≡ one_message
 
 hasty_holds : (v w : Vec ℕ Global) (x : Fits v (1 ∷ [])) (y : Fits w (2 ∷ []))
@@ -184,16 +157,16 @@ pub hasty_is_not_right : (first second : Vec ℕ Global) → IsMessage 1 first �
     → IsReceivedByTerminal call 0 (after_events configs (hasty first second) from_first) → ⊥
 hasty_is_not_right first second one two =
     let h = hasty_so first second one two in
-    not_by_terminal (after_events configs (hasty first second) from_first) h.given h.acked
-    h.received
+    not_by_terminal (after_events configs (hasty first second) from_first) (1 ∷ []) [] h.received
+    (λ received is. first_for_second _ _ received h.given h.acked is)
 
 -- ---- The TEI is assigned again.
 
 pub record Regained (first second : Vec ℕ Global) : Type 0 where
   pub keeps : KeepsAllButAssigning call 0 (regained first second) from_first
-  pub given : given_at (slice_get (after_events configs (regained first second)
+  pub given : given_at call (slice_get (after_events configs (regained first second)
       from_first).terminals 0) ≡ two_messages
-  pub acked : acked_at (slice_get (after_events configs (regained first second)
+  pub acked : acked_at call (slice_get (after_events configs (regained first second)
       from_first).terminals 0) ≡ 0 ∷ []
   pub received : (known_of call (after_events configs (regained first second)
       from_first).delivered).received ≡ (2 ∷ []) ∷ []
@@ -225,31 +198,15 @@ pub regained_is_not_right : (first second : Vec ℕ Global) → IsMessage 1 firs
     → IsReceivedByNetwork call 0 (after_events configs (regained first second) from_first) → ⊥
 regained_is_not_right first second one two =
     let h = regained_so first second one two in
-    not_by_network (after_events configs (regained first second) from_first) h.given h.acked
+    not_by_network call (after_events configs (regained first second) from_first) h.given h.acked
     h.received
 
 -- ---- Octets of the link are in transit to the network.
 
-old_apart : Throughout configs (KeepsTeisApart configs) leaves_sabme two_terminals
-unfolding computed_events
-old_apart = throughout_by configs (KeepsTeisApart configs) (keeps_teis_apart configs)
-    (keeps_teis_apart_so configs) leaves_sabme two_terminals refl
-
 pub old_is_reached : IsReached configs with_old_sabme
-old_is_reached = record {
-  known = [];
-  terminals = waiting_terminal sides.random ∷ waiting_terminal other_random ∷ [];
-  events = leaves_sabme;
-  before = [];
-  of_bus = tt;
-  start =
-      new_are_apart configs [] (waiting_terminal sides.random ∷ waiting_terminal other_random ∷ [])
-      (no_fixed_is_single configs []
-      (waiting_terminal sides.random ∷ waiting_terminal other_random ∷ [])
-      refl);
-  apart = old_apart;
-  reached = refl;
-}
+unfolding computed_events
+old_is_reached = reached_from_none configs []
+    (waiting_terminal sides.random ∷ waiting_terminal other_random ∷ []) refl leaves_sabme refl
 
 pub old_assigns_apart : KeepsTeisApart configs assigns_second with_old_sabme
 unfolding computed_events
@@ -314,9 +271,9 @@ joined_is_someone_elses = someone_elses (after_events configs joined from_first)
 
 pub record Replaced (first second : Vec ℕ Global) : Type 0 where
   pub keeps : KeepsAllButLeaving call 0 (replaced first second) from_first
-  pub given : given_at (slice_get (after_events configs (replaced first second)
+  pub given : given_at call (slice_get (after_events configs (replaced first second)
       from_first).terminals 0) ≡ two_messages
-  pub acked : acked_at (slice_get (after_events configs (replaced first second)
+  pub acked : acked_at call (slice_get (after_events configs (replaced first second)
       from_first).terminals 0) ≡ 0 ∷ []
   pub received : (known_of call (after_events configs (replaced first second)
       from_first).delivered).received ≡ (2 ∷ []) ∷ []
@@ -348,7 +305,7 @@ pub replaced_is_not_right : (first second : Vec ℕ Global) → IsMessage 1 firs
     → IsReceivedByNetwork call 0 (after_events configs (replaced first second) from_first) → ⊥
 replaced_is_not_right first second one two =
     let h = replaced_so first second one two in
-    not_by_network (after_events configs (replaced first second) from_first) h.given h.acked
+    not_by_network call (after_events configs (replaced first second) from_first) h.given h.acked
     h.received
 
 pub record Restarted (first second : Vec ℕ Global) : Type 0 where
@@ -357,7 +314,7 @@ pub record Restarted (first second : Vec ℕ Global) : Type 0 where
       ≡ two_messages
   pub acked : (known_of call (after_events configs (restarted first second)
       from_first).delivered).acked ≡ 0 ∷ []
-  pub received : received_at (slice_get (after_events configs (restarted first second)
+  pub received : received_at call (slice_get (after_events configs (restarted first second)
       from_first).terminals 0) ≡ (2 ∷ []) ∷ []
 
 restarted_holds : (v w : Vec ℕ Global) (x : Fits v (1 ∷ [])) (y : Fits w (2 ∷ []))
@@ -387,5 +344,5 @@ pub restarted_is_not_right : (first second : Vec ℕ Global) → IsMessage 1 fir
     → IsReceivedByTerminal call 0 (after_events configs (restarted first second) from_first) → ⊥
 restarted_is_not_right first second one two =
     let h = restarted_so first second one two in
-    first_not_by_terminal (after_events configs (restarted first second) from_first) h.given h.acked
-    h.received
+    not_by_terminal (after_events configs (restarted first second) from_first) (2 ∷ []) []
+    h.received (λ received is. second_for_first _ _ received h.given h.acked is)

@@ -16,6 +16,7 @@ pub mod CheckRows
 pub mod Settled
 pub mod Healed
 pub mod TerminalsApart
+pub mod Held
 pub mod Holding
 pub mod Checks
 pub mod RunsComputed

@@ -1,9 +1,7 @@
 -- Lists of terminals and of octets in transit.
-use Rattle.std.proofs.Common.{◌≡◌, ◌⊎◌, inl, inr, ℕ, ◌==◌, ◌&&◌, zero, suc, Bool, true, false, List, [], ◌∷◌, ◌++◌, map, set, drop, if◌then◌else◌, Option, Some, None, refl, sym, ap, subst, ◌∙◌, arith}
+use Rattle.std.proofs.Common.{◌≡◌, ◌⊎◌, inl, inr, ℕ, ◌==◌, zero, suc, Bool, true, false, List, [], ◌∷◌, map, set, drop, if◌then◌else◌, Option, Some, None, refl, sym, ap, subst, ◌∙◌}
 use Rattle.std.specs.Prelude.{slice_get, filter, ◌||◌}
 use Rattle.std.specs.List.{remove, list_any, filter_map, cons_option}
-use Rattle.std.proofs.lemmas.List.Folds.{list_any-append}
-use Rattle.std.proofs.lemmas.Bool.Decides.{nat_tests}
 use Rattle.lapd_tei.proofs.PreservedByBus.{get_after_set}
 use Rattle.lapd_side_events.proofs.Indices.{equal_index, apart_index}
 use Rattle.lapd_two_side_laws.proofs.Managed.{neither}
@@ -134,10 +132,6 @@ unique_map P Q f xs back h = λ i j x y hi hj qx qy.
 
 -- ---- Tests of some elements.
 
-pub both_so : (a b : Bool) → (a && b) ≡ true → (a ≡ true) × (b ≡ true)
-both_so true b h = (refl, h)
-both_so false b h = cc
-
 pub either_some : (a b : Bool) → (a || b) ≡ true → (a ≡ true) ⊎ (b ≡ true)
 either_some true b h = inl refl
 either_some false b h = inr h
@@ -182,37 +176,6 @@ module _ {Y : Type 0} (p : Y → Bool) where
     | inr rest ↦ some_second (p y) (list_any p zs) (more rest)
   ]
 
-  -- at most one element passes
-  abbrev pub AtMostOne : List Y → Type 0
-  AtMostOne [] = Unit {0}
-  AtMostOne (y ∷ ys) = (p y ≡ true → list_any p ys ≡ false) × AtMostOne ys
-
-  one_among : (o : Option Y) (ys : List Y) → AtMostOne (cons_option o ys) → AtMostOne ys
-  one_among None ys h = h
-  one_among (Some y) ys h = h.1
-
-  one_kept : (o : Option Y) (ys zs : List Y) → (list_any p zs ≡ true → list_any p ys ≡ true)
-      → (AtMostOne ys → AtMostOne zs) → AtMostOne (cons_option o ys) → AtMostOne (cons_option o zs)
-  one_kept None ys zs fewer more h = more h
-  one_kept (Some y) ys zs fewer more h = (
-    (λ it. false_by (list_any p zs) (λ some.
-        not_both (list_any p ys) (fewer some) (h.0 it))),
-    more h.1,
-  )
-
-  -- one more element, if none passes yet or it does not pass
-  pub one_more : (ys : List Y) (y : Y) → (list_any p ys ≡ false) ⊎ (p y ≡ false) → AtMostOne ys
-      → AtMostOne (ys ++ y ∷ [])
-  one_more [] y none h = ((λ it. refl), tt)
-  one_more (x ∷ xs) y (inl none) h =
-      let two = neither (p x) (list_any p xs) none in
-      ((λ it. absurd (not_both (p x) it two.0)), one_more xs y (inl two.1) h.1)
-  one_more (x ∷ xs) y (inr other) h = (
-    (λ it.
-        list_any-append p xs (y ∷ []) ∙ rw (h.0 it, other) refl),
-    one_more xs y (inr other) h.1,
-  )
-
 -- what passes after some elements were dropped or removed, passed before
 module _ {X Y : Type 0} (p : Y → Bool) (f : X → Option Y) where
   pub any_dropped : (xs : List X) → list_any p (filter_map f (drop 1 xs)) ≡ true
@@ -227,16 +190,3 @@ module _ {X Y : Type 0} (p : Y → Bool) (f : X → Option Y) where
   any_removed (x ∷ xs) zero h = any_among p (f x) (filter_map f xs) h
   any_removed (x ∷ xs) (suc at) h = any_kept p (f x) (filter_map f (remove xs at)) (filter_map f xs)
       (any_removed xs at) h
-
-  pub one_dropped : (xs : List X) → AtMostOne p (filter_map f xs)
-      → AtMostOne p (filter_map f (drop 1 xs))
-  one_dropped [] h = h
-  one_dropped (x ∷ xs) h = one_among p (f x) (filter_map f xs) h
-
-  pub one_removed : (xs : List X) (at : ℕ) → AtMostOne p (filter_map f xs)
-      → AtMostOne p (filter_map f (remove xs at))
-  one_removed [] zero h = h
-  one_removed [] (suc at) h = h
-  one_removed (x ∷ xs) zero h = one_among p (f x) (filter_map f xs) h
-  one_removed (x ∷ xs) (suc at) h = one_kept p (f x) (filter_map f xs) (filter_map f (remove xs at))
-      (any_removed xs at) (one_removed xs at) h

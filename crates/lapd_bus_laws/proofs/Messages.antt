@@ -1,15 +1,16 @@
 -- Which octets of the network carry an assignment: the message of one, and no frame of a link.
 use Rattle.std.proofs.Common.{◌≡◌, ℕ, ◌+◌, ◌*◌, ◌/◌, ◌%◌, ◌==◌, ◌&&◌, List, [], ◌∷◌, Bool, true, false, if◌then◌else◌, Option, Some, None, Result, Ok, Err, refl, ap, ◌∙◌, arith}
-use Rattle.std.specs.List.{filter_map, cons_option}
+use Rattle.std.specs.List.{filter_map}
 use Rattle.std.proofs.lemmas.Bool.Decides.{nat_tests}
 use Rattle.lapd_frame.specs.declared.Sapi.{Sapi}
 use Rattle.lapd_frame.specs.declared.Sapi.TheVariants as sapi
+use Rattle.lapd_frame.specs.declared.Side.{Side}
 use Rattle.lapd_frame.specs.declared.Side.TheVariants as side
-use Rattle.lapd_frame.specs.declared.Address.{Address}
 use Rattle.lapd_frame.specs.declared.frame_fault.FrameFault.{FrameFault}
 use Rattle.lapd_frame.specs.Frame.{Fields, spelling}
 use Rattle.lapd_frame.specs.Reading.{frame_at}
 use Rattle.lapd_frame.proofs.FrameAt.{frame_again}
+use Rattle.lapd_tei.specs.declared.fault.TeiFault.{TeiFault}
 use Rattle.lapd_tei.specs.declared.fault.TeiFault.TheVariants.{BadAi}
 use Rattle.lapd_tei.specs.declared.kind.TeiKind.{TeiKind}
 use Rattle.lapd_tei.specs.declared.kind.TeiKind.TheVariants as kind
@@ -17,11 +18,11 @@ use Rattle.lapd_tei.specs.declared.message.TeiMessage.{TeiMessage}
 use Rattle.lapd_tei.specs.Message.{frame_of_message, message_at, message_octets, with_ai, with_kind, kind_at, kind_number, permits, group_tei}
 use Rattle.lapd_table.specs.LinkId.{id_eq, id_of_address}
 use Rattle.lapd_table.specs.Octets.{event_by}
-use Rattle.lapd_sides.specs.Management.{is_management, is_ui}
+use Rattle.lapd_sides.specs.Management.{carries_message, is_management, is_ui}
 use Rattle.lapd_two_side_laws.specs.Addressed.{is_named, is_for, those_for}
 use Rattle.lapd_two_side_laws.proofs.Managed.{and_not}
 pub use Rattle.lapd_bus_laws.specs.Healing.{management_id}
-use Rattle.lapd_bus_laws.specs.Assignments.{Assignment, assignment_by, assignment_of, assignment_in_frame, assignment_in}
+use Rattle.lapd_bus_laws.specs.Assignments.{assignment_by, assignment_of, assignment_in_frame, assignment_in}
 use Rattle.lapd_bus_laws.proofs.Lists.{none_first}
 
 -- ---- A message is read as it was written.
@@ -99,32 +100,34 @@ assignment_again ri tei test is =
 pub not_for_group : (tei : ℕ) → (127 == tei) ≡ false → (tei == group_tei) ≡ false
 not_for_group tei h = grind (arith, nat_tests, h)
 
+pub frame_holds_none : {X : Type 0} (read : Result TeiMessage TeiFault → Option X) (f : Fields)
+    → id_eq management_id (id_of_address f.address) ≡ false
+    → (if carries_message f then read (message_at f.info) else None) ≡ None
+frame_holds_none {X} read f h = by f.address.sapi f.address.tei h
+  where
+    by : (s : Sapi) (tei : ℕ) → id_eq management_id (record { sapi = s; tei = tei }) ≡ false
+        → (if is_management s && (is_ui f.control && (tei == group_tei)) then read
+        (message_at f.info) else None) ≡ None
+    by sapi.Call tei h = refl
+    by sapi.Packet tei h = refl
+    by sapi.Management tei h = ap (λ (b : Bool). if b then read (message_at f.info) else None)
+        (and_not (is_ui f.control) (tei == group_tei) (not_for_group tei h))
+
+pub links_hold_none : {X : Type 0} (from : Side) (found : Result Fields FrameFault → Option X)
+    → ((r : Result Fields FrameFault) → is_named management_id (event_by r) ≡ false
+    → found r ≡ None) → (frames : List (List ℕ)) → those_for from management_id frames ≡ []
+    → filter_map (λ octets. found (frame_at from octets)) frames ≡ []
+links_hold_none from found no_frame [] none = refl
+links_hold_none from found no_frame (octets ∷ frames) none =
+    let two = none_first (is_for from management_id) octets frames none in
+    rw (no_frame (frame_at from octets) two.0) (links_hold_none from found no_frame frames two.1)
+
 frame_assigns_nothing : (r : Result Fields FrameFault) → is_named management_id (event_by r) ≡ false
     → assignment_in_frame r ≡ None
 frame_assigns_nothing (Err fault) h = refl
-frame_assigns_nothing (Ok f) h = by_address f.address h
-  where
-    by_address : (a : Address) → id_eq management_id (id_of_address a) ≡ false
-        → (if is_management a.sapi && (is_ui f.control && (a.tei == group_tei)) then assignment_of
-        (message_at f.info) else None) ≡ None
-    by_address a h = by_sapi a.sapi a.tei h
-      where
-        by_sapi : (s : Sapi) (tei : ℕ) → id_eq management_id (record { sapi = s; tei = tei })
-            ≡ false
-            → (if is_management s && (is_ui f.control && (tei == group_tei)) then assignment_of
-            (message_at f.info) else None) ≡ None
-        by_sapi sapi.Call tei h = refl
-        by_sapi sapi.Packet tei h = refl
-        by_sapi sapi.Management tei h = ap (λ (b : Bool).
-            if b then assignment_of (message_at f.info) else None)
-            (and_not (is_ui f.control) (tei == group_tei) (not_for_group tei h))
+frame_assigns_nothing (Ok f) h = frame_holds_none assignment_of f h
 
 pub links_assign_nothing : (frames : List (List ℕ)) → those_for side.Network management_id frames
     ≡ [] → filter_map assignment_in frames ≡ []
-links_assign_nothing [] none = refl
-links_assign_nothing (octets ∷ frames) none =
-    let two = none_first (is_for side.Network management_id) octets frames none in
-    ap (λ (o : Option Assignment).
-    cons_option o (filter_map assignment_in frames))
-    (frame_assigns_nothing (frame_at side.Network octets) two.0)
-    ∙ links_assign_nothing frames two.1
+links_assign_nothing frames none =
+    links_hold_none side.Network assignment_in_frame frame_assigns_nothing frames none

@@ -13,14 +13,14 @@ use Rattle.lapd_sides_links.specs.Links.{is_served, new_linked, or_new, paramete
 use Rattle.lapd_sides.specs.User.{User, new_user, links_of_fixed, has_tei}
 use Rattle.lapd_two_side_laws.specs.Addressed.{is_for, those_for}
 use Rattle.lapd_side_events.specs.Interface.{Configs, Interface, Move, happens, run, from_here, user_behaviour, network_behaviour}
-use Rattle.lapd_two_side_laws.specs.Premises.{AreTimely, GiveTeiOnce, SatisfyPremises}
+use Rattle.lapd_two_side_laws.specs.Premises.{GivesTeiOnce, SatisfyPremises}
 use Rattle.lapd_two_side_laws.specs.Projects.{IsSafeAt}
 use Rattle.lapd_side_events.specs.SideView.{SideView, SideEvent, Take, Lose, Expire, Ask, Overhear, reaction, left, does}
 use Rattle.lapd_two_side_laws.proofs.Managed.{and_not}
 use Rattle.lapd_two_side_laws.proofs.Whole.{link_safe_as}
 use Rattle.lapd_bus_laws.specs.Assignments.{holds}
 use Rattle.lapd_side_events.specs.Bus.{Bus, BusEvent, OfTerminal, OfNetwork, Join, Restart, NewTerminal, KeepsTerminal, OverhearsNothing, recorded_anew, from_now, reached_by, left_of, on_line_of, terminal_does, network_does, terminal_joins, bus_step, after_events, interface_of, overheard, by_network_of, network_moves, terminal_moves, moves_of, moves_along}
-use Rattle.lapd_bus_laws.specs.Links.{Throughout, IsTimelyFor, IsNotAssigned, AssignsOthers, ObtainsOnce, IsAside, IsSole, IsNewHere, IsNobodyElses}
+use Rattle.lapd_bus_laws.specs.Links.{Throughout, IsTimelyFor, IsNotAssigned, AssignsOthers, AssignsOnce, ObtainsOnce, IsAside, IsSole, IsNewHere, IsNobodyElses}
 use Rattle.lapd_bus_laws.proofs.Followed.{one_event}
 use Rattle.lapd_bus_laws.proofs.Lists.{Others, others_set, others_map, false_by, none_first, none_dropped, none_removed}
 use Rattle.lapd_side_events.proofs.Indices.{equal_index, apart_index}
@@ -46,6 +46,17 @@ pub has_so : (t : ℕ) (o : Option ℕ) → has_tei t o ≡ true → o ≡ Some 
 has_so t None h = cc
 has_so t (Some u) h = let e : u ≡ t = grind (arith, nat_tests, h) in ap Some e
 
+pub fixed_tei : (fixed : Option ℕ) (tei : ℕ) → tei_of (new_terminal fixed) ≡ Some tei
+    → fixed ≡ Some tei
+fixed_tei None tei is = is
+fixed_tei (Some t) tei is = is
+
+-- the terminal at this index, recorded anew
+pub there_now : (i : ℕ) (t : SideView User) (b : Bus) → slice_get b.terminals i ≡ Some t
+    → slice_get (from_now b).terminals i ≡ Some (recorded_anew t)
+there_now i t b at = slice_get-map recorded_anew b.terminals i
+    ∙ ap (λ (o : Option (SideView User)). option_map recorded_anew o) at
+
 none_left : (id : LinkId) (event : SideEvent) (line : List (List ℕ)) → those_for side.User id line
     ≡ [] → those_for side.User id (left event line) ≡ []
 none_left id (Take now) line is = none_dropped (is_for side.User id) line is
@@ -54,14 +65,22 @@ none_left id (Expire timer of now) line is = is
 none_left id (Ask request now) line is = is
 none_left id (Overhear octets now) line is = is
 
+-- a network that never assigns the TEI does so at most once
+pub assigns_once : (c : Configs) (id : LinkId) (e : BusEvent) (b : Bus)
+    → AssignsOthers c id.tei e b → AssignsOnce c id e b
+assigns_once c id (OfTerminal j event) b quiet = tt
+assigns_once c id (OfNetwork j event) b quiet = λ t at any. quiet t at
+assigns_once c id (Join j new) b quiet = tt
+assigns_once c id (Restart known) b quiet = tt
+
 module _ (c : Configs) (id : LinkId) (low : id.tei < 127) (i : ℕ) where
   -- ---- The other terminals stay without the TEI and the link.
 
-  record StaysAside (t : SideView User) : Type 0 where
+  pub record StaysAside (t : SideView User) : Type 0 where
     pub unheld : holds id.tei t ≡ false
     pub silent : StaysSilent c.user id low t
 
-  aside_does : (event : SideEvent) (t : SideView User) → OverhearsNothing event → StaysAside t
+  pub aside_does : (event : SideEvent) (t : SideView User) → OverhearsNothing event → StaysAside t
       → IsNotAssigned id.tei (reaction (user_behaviour c.user) event t).effects
       → StaysAside (does (user_behaviour c.user) event t)
   unfolding does
@@ -81,19 +100,20 @@ module _ (c : Configs) (id : LinkId) (low : id.tei < 127) (i : ℕ) where
             ((λ any. quiet), (λ lost. unheld (o.lost id.tei lost)));
       }
 
-  aside_reached : (frames : List (List ℕ)) (t : SideView User) → StaysAside t
-      → StaysAside (reached_by frames t)
-  aside_reached frames t h = record {
+  -- what is in transit to the terminal is nothing to this
+  pub aside_with : (line : List (List ℕ)) (t : SideView User) → StaysAside t
+      → StaysAside (record t { incoming = line })
+  aside_with line t h = record {
     unheld = h.unheld;
     silent = record {
       links = h.silent.links;
       line = h.silent.line;
-      delivered =
-          h.silent.delivered;
+      delivered = h.silent.delivered;
     };
   }
 
-  aside_left : (event : SideEvent) (t : SideView User) → StaysAside t → StaysAside (left_of event t)
+  pub aside_left : (event : SideEvent) (t : SideView User) → StaysAside t
+      → StaysAside (left_of event t)
   aside_left event t h = record {
     unheld = h.unheld;
     silent = record {
@@ -103,7 +123,7 @@ module _ (c : Configs) (id : LinkId) (low : id.tei < 127) (i : ℕ) where
     };
   }
 
-  abbrev OthersAside : Bus → Type 0
+  abbrev pub OthersAside : Bus → Type 0
   OthersAside b = Others StaysAside i b.terminals
 
   terminal_aside : (b : Bus) (j : ℕ) (event : SideEvent) (o : Option (SideView User))
@@ -121,12 +141,13 @@ module _ (c : Configs) (id : LinkId) (low : id.tei < 127) (i : ℕ) where
   network_aside b j event (Some t) at h =
       let frames = (reaction (network_behaviour c.network) event (on_line_of t b)).effects.frames in
       others_map StaysAside StaysAside (reached_by frames) i (set b.terminals j (left_of event t))
-      (aside_reached frames)
+      (λ u h. aside_with (u.incoming ++ frames) u h)
       (others_set StaysAside i b.terminals j (left_of event t) h
       (λ apart. aside_left event t (h j t at apart)))
 
-  -- a terminal that joins without the TEI
-  no_link : (fixed : Option ℕ) → (fixed ≡ Some id.tei → ⊥) → links_of_fixed c.user fixed id ≡ None
+  -- a terminal that starts without the TEI
+  pub no_link : (fixed : Option ℕ) → (fixed ≡ Some id.tei → ⊥)
+      → links_of_fixed c.user fixed id ≡ None
   unfolding with_tei
   no_link None apart = refl
   no_link (Some tei) apart =
@@ -135,16 +156,15 @@ module _ (c : Configs) (id : LinkId) (low : id.tei < 127) (i : ℕ) where
       ap (λ (b : Bool). if b then or_new (new_linked (parameters_for c.user id.sapi)
       c.user.durations) None else None) (and_not (is_served c.user id.sapi) (id.tei == tei) other)
 
-  fixed_tei : (fixed : Option ℕ) (tei : ℕ) → tei_of (new_terminal fixed) ≡ Some tei
-      → fixed ≡ Some tei
-  fixed_tei None tei is = is
-  fixed_tei (Some t) tei is = is
+  pub not_fixed : (fixed : Option ℕ) → (fixed ≡ Some id.tei → ⊥)
+      → has_tei id.tei (tei_of (new_terminal fixed)) ≡ false
+  not_fixed fixed apart = has_none id.tei (tei_of (new_terminal fixed)) (λ is.
+      apart (fixed_tei fixed id.tei is))
 
   aside_joins : (new : NewTerminal) (t : SideView User) → (new.fixed ≡ Some id.tei → ⊥)
       → StaysAside t → StaysAside (record t { now = new_user c.user new.fixed new.random })
   aside_joins new t apart h = record {
-    unheld = has_none id.tei (tei_of (new_terminal new.fixed)) (λ is.
-        apart (fixed_tei new.fixed id.tei is));
+    unheld = not_fixed new.fixed apart;
     silent = record {
       links = no_link new.fixed apart;
       line = h.silent.line;
@@ -160,9 +180,8 @@ module _ (c : Configs) (id : LinkId) (low : id.tei < 127) (i : ℕ) where
     now = new_user c.user new.fixed new.random;
   }) h (λ elsewhere. aside_joins new t other (h j t at apart))
 
-  aside_after : (e : BusEvent) (b : Bus) → KeepsTerminal i e → OthersAside b
-      → ObtainsOnce c id i e b
-      → OthersAside (bus_step c e b)
+  pub aside_after : (e : BusEvent) (b : Bus) → KeepsTerminal i e → OthersAside b
+      → ObtainsOnce c id i e b → OthersAside (bus_step c e b)
   aside_after (OfTerminal j event) b ok h once = terminal_aside b j event (slice_get b.terminals j)
       ok refl h once
   aside_after (OfNetwork j event) b ok h once = network_aside b j event (slice_get b.terminals j)
@@ -177,17 +196,11 @@ module _ (c : Configs) (id : LinkId) (low : id.tei < 127) (i : ℕ) where
   all_aside (e ∷ es) b ok h once = all_aside es (bus_step c e b) ok.1
       (aside_after e b ok.0 h once.0) once.1
 
-  aside_now : (b : Bus) → IsSole id i b → OthersAside (from_now b)
+  pub aside_now : (b : Bus) → IsSole id i b → OthersAside (from_now b)
   aside_now b sole = others_map (IsAside id) StaysAside recorded_anew i b.terminals
-      (λ t h.
-      record {
+      (λ t h. record {
         unheld = h.unheld;
-        silent = record {
-          links = h.link;
-          line = h.line;
-          delivered =
-              refl;
-        };
+        silent = record { links = h.link; line = h.line; delivered = refl };
       }) sole
 
   pub nobody_elses : (events : List BusEvent) (b : Bus) → AllByRecursion (KeepsTerminal i) events
@@ -198,11 +211,8 @@ module _ (c : Configs) (id : LinkId) (low : id.tei < 127) (i : ℕ) where
 
   -- ---- The premises of the interface.
 
-  abbrev Meets : List Move → Interface → Type 0
-  Meets ms k = AreTimely c id ms k × GiveTeiOnce c id ms k
-
-  meets_both : (ms ns : List Move) (k : Interface) → Meets ms k → Meets ns (run c ms k)
-      → Meets (ms ++ ns) k
+  meets_both : (ms ns : List Move) (k : Interface) → SatisfyPremises c id ms k
+      → SatisfyPremises c id ns (run c ms k) → SatisfyPremises c id (ms ++ ns) k
   meets_both [] ns k a b = b
   meets_both (m ∷ ms) ns k a b =
       let rest = meets_both ms ns (happens c m k) (a.0.1, a.1.1) b in
@@ -211,7 +221,7 @@ module _ (c : Configs) (id : LinkId) (low : id.tei < 127) (i : ℕ) where
   module _ (t : SideView User) (b : Bus) (at : slice_get b.terminals i ≡ Some t) where
     terminal_meets : (j : ℕ) (event : SideEvent) (test : Bool) → (j == i) ≡ test
         → IsTimelyFor id i (OfTerminal j event) b → ObtainsOnce c id i (OfTerminal j event) b
-        → Meets (terminal_moves test event) (interface_of t b)
+        → SatisfyPremises c id (terminal_moves test event) (interface_of t b)
     terminal_meets j event true is timely once =
         let same = equal_index j i is in
         ((timely same t at, tt), ((once t (ap (slice_get b.terminals) same ∙ at)).0 same, tt))
@@ -221,48 +231,43 @@ module _ (c : Configs) (id : LinkId) (low : id.tei < 127) (i : ℕ) where
     overhears_meet : (event : SideEvent) (u : SideView User) (line : List (List ℕ))
         → OverhearsNothing event → those_for side.User id line ≡ []
         → IsTimelyFor id i (OfNetwork i event) b
-        → IsNotAssigned id.tei (reaction (network_behaviour c.network) event
-        (record (on_line_of u b) { incoming = line })).effects
-        → Meets (map by_network_of (overheard event line)) (interface_of t b)
-    overhears_meet (Take now) u [] ok none timely quiet = (tt, tt)
-    overhears_meet (Take now) u (octets ∷ rest) ok none timely quiet =
-        (((none_first (is_for side.User id) octets rest none).0, tt), ((λ any. quiet), tt))
-    overhears_meet (Lose at) u line ok none timely quiet = (tt, tt)
-    overhears_meet (Expire timer of now) u line ok none timely quiet =
-        ((timely t at, tt), ((λ any. quiet), tt))
-    overhears_meet (Ask request now) u line ok none timely quiet = ((tt, tt), ((λ any. quiet), tt))
-    overhears_meet (Overhear octets now) u line ok none timely quiet = absurd ok
+        → GivesTeiOnce (network_behaviour c.network) id event
+        (record (on_line_of u b) { incoming = line })
+        → SatisfyPremises c id (map by_network_of (overheard event line)) (interface_of t b)
+    overhears_meet (Take now) u [] ok none timely once = (tt, tt)
+    overhears_meet (Take now) u (octets ∷ rest) ok none timely once =
+        (((none_first (is_for side.User id) octets rest none).0, tt), (once, tt))
+    overhears_meet (Lose at) u line ok none timely once = (tt, tt)
+    overhears_meet (Expire timer of now) u line ok none timely once =
+        ((timely t at, tt), (once, tt))
+    overhears_meet (Ask request now) u line ok none timely once = ((tt, tt), (once, tt))
+    overhears_meet (Overhear octets now) u line ok none timely once = absurd ok
 
     network_meets : (j : ℕ) (event : SideEvent) (test : Bool) (o : Option (SideView User))
         → (j == i) ≡ test → slice_get b.terminals j ≡ o → OverhearsNothing event → OthersAside b
-        → IsTimelyFor id i (OfNetwork j event) b → AssignsOthers c id.tei (OfNetwork j event) b
-        → Meets (network_moves test event o) (interface_of t b)
-    network_meets j event test None is there ok h timely quiet = (tt, tt)
-    network_meets j event true (Some u) is there ok h timely quiet = (
+        → IsTimelyFor id i (OfNetwork j event) b → AssignsOnce c id (OfNetwork j event) b
+        → SatisfyPremises c id (network_moves test event o) (interface_of t b)
+    network_meets j event test None is there ok h timely once = (tt, tt)
+    network_meets j event true (Some u) is there ok h timely once = (
       (timely t at, tt),
-      (
-        (λ any.
-            quiet t (ap (slice_get b.terminals) (equal_index j i is) ∙ at)),
-        tt,
-      ),
+      (once t (ap (slice_get b.terminals) (equal_index j i is) ∙ at), tt),
     )
-    network_meets j event false (Some u) is there ok h timely quiet =
+    network_meets j event false (Some u) is there ok h timely once =
         overhears_meet event u u.outgoing ok (h j u there (apart_index j i is)).silent.line timely
-        (quiet u there)
+        (once u there)
 
-    one_meets : (e : BusEvent) → KeepsTerminal i e → OthersAside b → IsTimelyFor id i e b
-        → AssignsOthers c id.tei e b → ObtainsOnce c id i e b
-        → Meets (moves_of i e b) (interface_of t b)
-    one_meets (OfTerminal j event) ok h timely quiet once = terminal_meets j event (j == i) refl
-        timely once
-    one_meets (OfNetwork j event) ok h timely quiet once =
-        network_meets j event (j == i) (slice_get b.terminals j) refl refl ok h timely quiet
-    one_meets (Join j new) ok h timely quiet once = (tt, tt)
-    one_meets (Restart known) ok h timely quiet once = absurd ok
+    pub one_meets : (e : BusEvent) → KeepsTerminal i e → OthersAside b → IsTimelyFor id i e b
+        → AssignsOnce c id e b → ObtainsOnce c id i e b
+        → SatisfyPremises c id (moves_of i e b) (interface_of t b)
+    one_meets (OfTerminal j event) ok h timely assigns once =
+        terminal_meets j event (j == i) refl timely once
+    one_meets (OfNetwork j event) ok h timely assigns once =
+        network_meets j event (j == i) (slice_get b.terminals j) refl refl ok h timely assigns
+    one_meets (Join j new) ok h timely assigns once = (tt, tt)
+    one_meets (Restart known) ok h timely assigns once = absurd ok
 
-  meets : (events : List BusEvent) (t : SideView User) (b : Bus) → AllByRecursion (KeepsTerminal i)
-      events
-      → slice_get b.terminals i ≡ Some t → OthersAside b
+  meets : (events : List BusEvent) (t : SideView User) (b : Bus)
+      → AllByRecursion (KeepsTerminal i) events → slice_get b.terminals i ≡ Some t → OthersAside b
       → Throughout c (IsTimelyFor id i) events b → Throughout c (AssignsOthers c id.tei) events b
       → Throughout c (ObtainsOnce c id i) events b
       → SatisfyPremises c id (moves_along c i events b) (interface_of t b)
@@ -272,22 +277,29 @@ module _ (c : Configs) (id : LinkId) (low : id.tei < 127) (i : ℕ) where
       let later = meets es first.terminal (bus_step c e b) ok.1 first.there
       (aside_after e b ok.0 h once.0) timely.1 quiet.1 once.1 in
       meets_both (moves_of i e b) (moves_along c i es (bus_step c e b)) (interface_of t b)
-      (one_meets t b at e ok.0 h timely.0 quiet.0 once.0)
-      (subst (Meets (moves_along c i es (bus_step c e b))) first.moved later)
+      (one_meets t b at e ok.0 h timely.0 (assigns_once c id e b quiet.0) once.0)
+      (subst (SatisfyPremises c id (moves_along c i es (bus_step c e b))) first.moved later)
 
   -- ---- The link is safe.
 
+  pub meets_now : (events : List BusEvent) (t : SideView User) (b : Bus)
+      → AllByRecursion (KeepsTerminal i) events → slice_get b.terminals i ≡ Some t → IsSole id i b
+      → Throughout c (IsTimelyFor id i) events (from_now b)
+      → Throughout c (AssignsOthers c id.tei) events (from_now b)
+      → Throughout c (ObtainsOnce c id i) events (from_now b)
+      → SatisfyPremises c id (moves_along c i events (from_now b)) (from_here (interface_of t b))
+  meets_now events t b ok at sole timely quiet once =
+      meets events (recorded_anew t) (from_now b) ok (there_now i t b at) (aside_now b sole) timely
+      quiet once
+
   pub safe_here : (p q : Parameters) (events : List BusEvent) (t : SideView User) (b : Bus)
-      → p.k ≤ 127 → q.k ≤ 127 → AllByRecursion (KeepsTerminal i) events → slice_get b.terminals i
-      ≡ Some t
-      → IsNewHere c id p q t b → IsSole id i b
-      → Throughout c (IsTimelyFor id i) events (from_now b) → Throughout c (AssignsOthers c id.tei)
-      events (from_now b) → Throughout c (ObtainsOnce c id i) events (from_now b)
+      → p.k ≤ 127 → q.k ≤ 127 → AllByRecursion (KeepsTerminal i) events
+      → slice_get b.terminals i ≡ Some t → IsNewHere c id p q t b → IsSole id i b
+      → Throughout c (IsTimelyFor id i) events (from_now b)
+      → Throughout c (AssignsOthers c id.tei) events (from_now b)
+      → Throughout c (ObtainsOnce c id i) events (from_now b)
       → IsSafeAt c id (moves_along c i events (from_now b)) (from_here (interface_of t b))
   safe_here p q events t b small_p small_q ok at new sole timely quiet once =
-      let there : slice_get (from_now b).terminals i ≡ Some (recorded_anew t) =
-      slice_get-map recorded_anew b.terminals i ∙ ap (λ (o : Option (SideView User)).
-      option_map recorded_anew o) at in
       link_safe_as c id low p q small_p small_q (interface_of t b) new.user new.network new.to_user
       new.to_network (moves_along c i events (from_now b))
-      (meets events (recorded_anew t) (from_now b) ok there (aside_now b sole) timely quiet once)
+      (meets_now events t b ok at sole timely quiet once)

@@ -2,7 +2,6 @@
 use Rattle.std.proofs.Common.{◌≡◌, ℕ, [], ◌∷◌, map, true, false, refl}
 use Rattle.std.specs.Prelude.{Vec}
 use Rattle.std.specs.declared.alloc.Global.{Global}
-use Rattle.lapd_link_definition.specs.Procedures.{start}
 use Rattle.lapd_sides_links.specs.declared.primitive.What.TheVariants as what
 use Rattle.lapd_sides.specs.User.{User}
 use Rattle.lapd_two_side_laws.specs.Primitives.{link_primitives}
@@ -14,33 +13,16 @@ use Rattle.lapd_side_events.specs.Bus.{bus_step, from_now, after_events}
 use Rattle.lapd_bus_laws.specs.Holdings.{AssignsFree, RequestsByItsOwn, JoinsWithFree, IsOfBus, KeepsTeisApart, IsReached, Assigns, IsOnlyClaimant, IsClear, KeepsHolding}
 use Rattle.lapd_bus_laws.specs.Links.{Throughout}
 use Rattle.lapd_bus_laws.specs.Runs.{two_fixed, fixed_call, fixed_talks, requested_bus, from_assignment, KeepsAllButAssignment, KeepsAllButReference, KeepsAllButJoining, second_call, two_terminals, both_request, assigns_first, talking, moved, assigned_while_held, assigned_in_transit, twins, same_reference, answered_before, joins_with_held, same_fixed, waiting_terminal, other_random}
-use Rattle.lapd_bus_laws.proofs.TerminalsApart.{new_are_apart}
-use Rattle.lapd_bus_laws.proofs.Checks.{throughout_by, of_bus, of_bus_so, assigns_free, assigns_free_so, requests_by_its_own, requests_by_its_own_so, joins_with_free, joins_with_free_so, keeps_teis_apart, keeps_teis_apart_so, keeps_holding, keeps_holding_so, no_fixed_is_single, both_hold_so, assigns_now_so, only_claimant_so, is_clear_so}
+use Rattle.lapd_bus_laws.proofs.Checks.{throughout_by, of_bus, of_bus_so, assigns_free, assigns_free_so, requests_by_its_own, requests_by_its_own_so, joins_with_free, joins_with_free_so, keeps_teis_apart, keeps_teis_apart_so, keeps_holding, keeps_holding_so, reached_from_none, both_hold_so, assigns_now_so, only_claimant_so, is_clear_so}
 use Rattle.lapd_sides.specs.Worked as sides
 use Rattle.lapd_two_side_laws.proofs.ComputedEvents.{computed_events}
 
 -- ---- Two telephones come up and talk.
 
-requested_so : Throughout configs (KeepsTeisApart configs) both_request two_terminals
-unfolding computed_events
-requested_so = throughout_by configs (KeepsTeisApart configs) (keeps_teis_apart configs)
-    (keeps_teis_apart_so configs) both_request two_terminals refl
-
 pub requested_is_reached : IsReached configs requested_bus
-requested_is_reached = record {
-  known = [];
-  terminals = waiting_terminal sides.random ∷ waiting_terminal other_random ∷ [];
-  events = both_request;
-  before = [];
-  of_bus = tt;
-  start =
-      new_are_apart configs [] (waiting_terminal sides.random ∷ waiting_terminal other_random ∷ [])
-      (no_fixed_is_single configs []
-      (waiting_terminal sides.random ∷ waiting_terminal other_random ∷ [])
-      refl);
-  apart = requested_so;
-  reached = refl;
-}
+unfolding computed_events
+requested_is_reached = reached_from_none configs []
+    (waiting_terminal sides.random ∷ waiting_terminal other_random ∷ []) refl both_request refl
 
 pub assigns_apart : KeepsTeisApart configs assigns_first requested_bus
 unfolding computed_events

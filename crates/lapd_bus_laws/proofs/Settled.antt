@@ -28,7 +28,7 @@ use Rattle.lapd_bus_laws.proofs.Heard.{Received, first_taken, sent_on, takes_ass
 use Rattle.lapd_bus_laws.proofs.Lists.{some_first, not_both, false_by}
 use Rattle.lapd_bus_laws.proofs.Obtains.{FirstAnswers, TakesAnswer, event_obtains}
 use Rattle.lapd_bus_laws.proofs.PremisesOfInterface.{has_so}
-use Rattle.lapd_bus_laws.proofs.Lists.{both_so}
+use Rattle.lapd_link_definition.proofs.Sending.{both_true}
 
 -- ---- The messages about a TEI.
 
@@ -75,7 +75,7 @@ module _ (tei : ℕ) where
       × (holds tei t ≡ true → reference_of t.now.management.terminal ≡ Some ri))
 
   answer_names : (ri : ℕ) (m : TeiMessage) → IsAnswer ri m ≡ true → (m.ai == tei) ≡ true
-  answer_names ri m h = about_names kind.Assigned tei m (both_so (IsAssigned m) (m.ri == ri) h).0
+  answer_names ri m h = about_names kind.Assigned tei m (both_true (IsAssigned m) (m.ri == ri) h).0
 
 equal_of : (x y : ℕ) → (x == y) ≡ true → x ≡ y
 equal_of x y h = grind (arith, nat_tests, h)
@@ -223,7 +223,7 @@ module _ (c : Configs) (tei : ℕ) (low : tei < 127) where
         unsent_behind (IsAnswer tei ri) taken,
         (λ h.
             (let r = received_last (IsAnswer tei ri) event t taken in
-            let two = both_so (IsAssigned tei r.message) (r.message.ri == ri) r.passes in
+            let two = both_true (IsAssigned tei r.message) (r.message.ri == ri) r.passes in
             ap reference_of r.phase
             ∙ takes_assignment tei t.now.management.terminal r.message r.reference ri two.0
             (equal_of r.message.ri ri two.1) (held_by (IsAnswer tei ri) r h))),

@@ -1,5 +1,5 @@
 -- Every event of a bus keeps each TEI to one terminal.
-use Rattle.std.proofs.Common.{◌≡◌, inl, inr, ℕ, ◌==◌, ◌&&◌, List, [], ◌∷◌, map, set, Bool, true, false, Option, Some, None, refl, ap, subst, arith}
+use Rattle.std.proofs.Common.{◌≡◌, inl, inr, ℕ, ◌==◌, List, [], ◌∷◌, map, set, Bool, true, false, Option, Some, None, refl, sym, ap, subst, ◌∙◌, arith}
 use Rattle.std.specs.Prelude.{slice_get, ◌||◌}
 use Rattle.std.specs.List.{list_any}
 use Rattle.std.proofs.lemmas.Bool.Decides.{nat_tests}
@@ -12,49 +12,62 @@ use Rattle.lapd_side_events.specs.Interface.{Configs, user_behaviour, network_be
 use Rattle.lapd_side_events.specs.SideView.{SideView, SideEvent, reaction, does}
 use Rattle.lapd_two_side_laws.proofs.AsMade.{new_are_own, new_are_held}
 use Rattle.lapd_two_side_laws.proofs.OwnSides.{AreHeld, network_preserves, AreOwn, user_preserves}
-use Rattle.lapd_bus_laws.specs.Assignments.{Assignment, holds, awaited, awaits, is_offer, is_taken, IsSingle}
-use Rattle.lapd_side_events.specs.Bus.{Bus, BusEvent, OfTerminal, OfNetwork, Join, Restart, NewTerminal, connected, new_bus, OverhearsNothing, reached_by, left_of, on_line_of, terminal_does, network_does, terminal_joins, bus_step, after_events}
+use Rattle.lapd_bus_laws.specs.Assignments.{Assignment, holds, is_of_tei, awaited, awaits, has_reference, is_offer, is_taken, IsSingle}
+use Rattle.lapd_side_events.specs.Bus.{Bus, BusEvent, OfTerminal, OfNetwork, Join, Restart, NewTerminal, connected, new_bus, OverhearsNothing, reached_by, left_of, on_line_of, with_terminal, terminal_does, network_does, terminal_joins, bus_step, after_events}
 use Rattle.lapd_bus_laws.specs.Holdings.{AssignsFree, RequestsByItsOwn, JoinsWithFree, KeepsTeisApart}
 use Rattle.lapd_bus_laws.specs.Links.{Throughout}
 use Rattle.lapd_bus_laws.proofs.Assigns.{HasNoManagementLink, AssignsAtMostOne, event_assigns}
 use Rattle.lapd_bus_laws.proofs.Claims.{Claims, Awaits, claim_is_taken, claims_before, reached_without, reached_by_assignment}
-use Rattle.lapd_bus_laws.proofs.Lists.{Each, Unique, each_set, each_map, unique_set, unique_map, map_back, any_at, any_other, either_some, some_first, not_both, any_weaker}
-use Rattle.lapd_bus_laws.proofs.PremisesOfInterface.{has_so}
+use Rattle.lapd_link_definition.proofs.Sending.{both_true}
+use Rattle.lapd_bus_laws.proofs.Lists.{Each, Unique, each_set, each_map, unique_set, unique_map, map_back, any_at, any_other, either_some, some_first, not_both, false_by, any_weaker}
+use Rattle.lapd_bus_laws.proofs.PremisesOfInterface.{has_so, fixed_tei}
 
--- ---- A terminal that joins.
+-- ---- A terminal that starts requests nothing.
 
 none_any : {X : Type 0} (xs : List X) → list_any (λ (x : X). false) xs ≡ true → ⊥
 none_any [] h = cc
 none_any (x ∷ xs) h = none_any xs h
 
--- without a request no assignment is an offer
-no_offer : (tei : ℕ) (phase : Phase) (line : List Assignment) → awaited phase ≡ None
-    → list_any (is_offer tei phase) line ≡ true → ⊥
-no_offer tei phase line none h = none_any line (any_weaker (is_offer tei phase)
-    (λ (a : Assignment). false) line (λ a offer.
-    absurd (second (a.tei == tei) (has_tei a.reference (awaited phase))
-    (ap (has_tei a.reference) none) offer)) h)
+-- if no assignment has the reference that is awaited, none is an offer
+pub no_offer : (tei : ℕ) (phase : Phase) (line : List Assignment)
+    → ((ri : ℕ) → awaited phase ≡ Some ri → list_any (has_reference ri) line ≡ false)
+    → list_any (is_offer tei phase) line ≡ false
+no_offer tei phase line unanswered = false_by _ (λ offer. by (awaited phase) refl offer)
   where
-    second : (x y : Bool) → y ≡ false → (x && y) ≡ true → ⊥
-    second true y none offer = not_both y offer none
-    second false y none offer = cc
+    impossible : (ri : ℕ) → has_tei ri None ≡ true → ⊥
+    impossible ri is = cc
 
-awaits_none : (fixed : Option ℕ) → awaited (new_terminal fixed) ≡ None
-awaits_none None = refl
-awaits_none (Some tei) = refl
+    same_reference : (ri n : ℕ) → (ri == n) ≡ true → (n == ri) ≡ true
+    same_reference ri n e = grind (arith, nat_tests, e)
+
+    by : (o : Option ℕ) → awaited phase ≡ o → list_any (is_offer tei phase) line ≡ true → ⊥
+    by None is offer = none_any line (any_weaker (is_offer tei phase)
+        (λ (a : Assignment). false) line (λ a it.
+        absurd (impossible a.reference (ap (has_tei a.reference) (sym is)
+        ∙ (both_true (is_of_tei tei a) (has_tei a.reference (awaited phase)) it).1))) offer)
+    by (Some ri) is offer = not_both (list_any (has_reference ri) line)
+        (any_weaker (is_offer tei phase) (has_reference ri) line (λ a it.
+        same_reference ri a.reference (ap (has_tei a.reference) (sym is)
+        ∙ (both_true (is_of_tei tei a) (has_tei a.reference (awaited phase)) it).1)) offer)
+        (unanswered ri is)
+
+pub requests_none : (ri : ℕ) (fixed : Option ℕ) → awaited (new_terminal fixed) ≡ Some ri → ⊥
+requests_none ri None is = cc
+requests_none ri (Some tei) is = cc
+
+pub none_offered : (tei : ℕ) (fixed : Option ℕ) (line : List Assignment)
+    → list_any (is_offer tei (new_terminal fixed)) line ≡ false
+none_offered tei fixed line = no_offer tei (new_terminal fixed) line
+    (λ ri is. absurd (requests_none ri fixed is))
 
 pub fixed_of : (tei : ℕ) (fixed : Option ℕ) (line : List Assignment)
     → (has_tei tei (tei_of (new_terminal fixed)) || list_any (is_offer tei (new_terminal fixed))
     line) ≡ true → fixed ≡ Some tei
 fixed_of tei fixed line h = elim (either_some (has_tei tei (tei_of (new_terminal fixed)))
     (list_any (is_offer tei (new_terminal fixed)) line) h) [
-      | inl it ↦ own fixed (has_so tei (tei_of (new_terminal fixed)) it)
-      | inr offer ↦ absurd (no_offer tei (new_terminal fixed) line (awaits_none fixed) offer)
+      | inl it ↦ fixed_tei fixed tei (has_so tei (tei_of (new_terminal fixed)) it)
+      | inr offer ↦ absurd (not_both _ offer (none_offered tei fixed line))
     ]
-  where
-    own : (f : Option ℕ) → tei_of (new_terminal f) ≡ Some tei → f ≡ Some tei
-    own None is = is
-    own (Some t) is = is
 
 -- ---- The invariant.
 
@@ -181,30 +194,32 @@ module _ (c : Configs) where
   network_keeps b j event None ok at assigns h = h
   network_keeps b j event (Some t) ok at assigns h = network_did_keep b j event t ok at assigns h
 
+  -- a terminal starts anew, and claims its fixed TEI alone
+  pub start_keeps : (b : Bus) (j : ℕ) (new : NewTerminal) (t after : SideView User)
+      → slice_get b.terminals j ≡ Some t → JoinsWithFree (Join j new) b
+      → ((tei : ℕ) → Claims tei after → new.fixed ≡ Some tei)
+      → ((ri : ℕ) → awaited after.now.management.terminal ≡ Some ri → ⊥) → AreOwn after.now
+      → KeepsApart b → KeepsApart (with_terminal j after b)
+  start_keeps b j new t after at joins fixed none own h = record {
+    claims = λ tei. unique_set (Claims tei) b.terminals j t after at (h.claims tei) (λ claim.
+        inr (λ k u there apart other.
+        not_both (is_taken tei u) (claim_is_taken tei u other)
+        (any_other (is_taken tei) b.terminals j k u (joins tei (fixed tei claim)) there apart)));
+    references = λ ri. unique_set (Awaits ri) b.terminals j t after at (h.references ri) (λ waits.
+        absurd (none ri (has_so ri (awaited after.now.management.terminal) waits)));
+    management = h.management;
+    own = each_set IsOwn b.terminals j after h.own own;
+    held = h.held;
+  }
+
   join_keeps : (b : Bus) (j : ℕ) (new : NewTerminal) (o : Option (SideView User))
       → slice_get b.terminals j ≡ o → JoinsWithFree (Join j new) b → KeepsApart b
       → KeepsApart (terminal_joins c j new o b)
   join_keeps b j new None at joins h = h
   join_keeps b j new (Some t) at joins h =
-      let after : SideView User = record t { now = new_user c.user new.fixed new.random } in
-      record {
-        claims = λ tei. unique_set (Claims tei) b.terminals j t after at (h.claims tei) (λ claim.
-            inr (λ k u there apart other.
-            not_both (is_taken tei u) (claim_is_taken tei u other)
-            (any_other (is_taken tei) b.terminals j k u
-            (joins tei (fixed_of tei new.fixed _ claim)) there apart)));
-        references =
-            λ ri. unique_set (Awaits ri) b.terminals j t after at (h.references ri) (λ waits.
-            absurd (no_request ri new.fixed waits));
-        management = h.management;
-        own = each_set IsOwn b.terminals j after h.own (new_are_own c.user new.fixed new.random);
-        held = h.held;
-      }
-    where
-      no_request : (ri : ℕ) (fixed : Option ℕ) → has_tei ri (awaited (new_terminal fixed)) ≡ true
-          → ⊥
-      no_request ri None is = cc
-      no_request ri (Some tei) is = cc
+      start_keeps b j new t (record t { now = new_user c.user new.fixed new.random }) at joins
+      (λ tei claim. fixed_of tei new.fixed _ claim) (λ ri is. requests_none ri new.fixed is)
+      (new_are_own c.user new.fixed new.random) h
 
   pub no_management : (known : List ℕ) → HasNoManagementLink (new_network c.network known)
   unfolding links_below
@@ -261,11 +276,8 @@ module _ (c : Configs) where
           ≡ Some t → Awaits ri t → ⊥
       no_request ri k t there waits =
           let m = map_back (connected c) terminals k t there in
-          subst (λ (x : SideView User). Awaits ri x → ⊥) m.2 (λ w. none ri m.0.fixed w) waits
-        where
-          none : (n : ℕ) (fixed : Option ℕ) → has_tei n (awaited (new_terminal fixed)) ≡ true → ⊥
-          none n None is = cc
-          none n (Some tei) is = cc
+          subst (λ (x : SideView User). Awaits ri x → ⊥) m.2 (λ w. requests_none ri m.0.fixed
+          (has_so ri (awaited (new_terminal m.0.fixed)) w)) waits
 
   pub single_from : (b : Bus) → KeepsApart b → IsSingle b
   single_from b h = λ tei i j t u hi hj ht hu.

@@ -16,10 +16,14 @@ use Rattle.lapd_side_events.specs.SideView.{SideView, reaction}
 use Rattle.lapd_bus_laws.specs.Assignments.{holds}
 use Rattle.lapd_side_events.specs.Bus.{Bus, BusEvent, OfTerminal, OfNetwork, Join, Restart, on_line_of, bus_step}
 
--- Each of these events has this property, in the bus that it happens on.
+-- Each of these events has this property, in the bus that it happens on, by this step.
+abbrev pub ThroughoutBy : (BusEvent → Bus → Bus) → (BusEvent → Bus → Type 0) → List BusEvent → Bus
+    → Type 0
+ThroughoutBy step P [] b = Unit {0}
+ThroughoutBy step P (e ∷ es) b = P e b × ThroughoutBy step P es (step e b)
+
 abbrev pub Throughout : Configs → (BusEvent → Bus → Type 0) → List BusEvent → Bus → Type 0
-Throughout c P [] b = Unit {0}
-Throughout c P (e ∷ es) b = P e b × Throughout c P es (bus_step c e b)
+Throughout c P events b = ThroughoutBy (bus_step c) P events b
 
 -- T200 of the link does not expire at the terminal at this index, nor at the network, while a
 -- command with P=1 or a response with F=1 that it waits for is in transit between both.
@@ -40,6 +44,12 @@ AssignsOthers c tei (OfNetwork j event) b = (t : SideView User)
     → slice_get b.terminals j ≡ Some t
     → IsNotAssigned tei (reaction (network_behaviour c.network) event (on_line_of t b)).effects
 AssignsOthers c tei other b = Unit {0}
+
+-- The network does not assign the TEI while it has the link, nor after the TEI was removed.
+abbrev pub AssignsOnce : Configs → LinkId → BusEvent → Bus → Type 0
+AssignsOnce c id (OfNetwork j event) b = (t : SideView User) → slice_get b.terminals j ≡ Some t
+    → GivesTeiOnce (network_behaviour c.network) id event (on_line_of t b)
+AssignsOnce c id other b = Unit {0}
 
 -- The terminal at this index obtains the TEI once, no other terminal obtains it, and none joins
 -- with it.

@@ -1,25 +1,22 @@
 -- A bus that is reached with restarts has what the laws of holdings need: its terminals are apart.
-use Rattle.std.proofs.Common.{◌≡◌, inr, ℕ, List, [], ◌∷◌, true, Option, Some, None, refl, sym, ap, subst, ◌∙◌}
+use Rattle.std.proofs.Common.{◌≡◌, ℕ, List, [], ◌∷◌, true, Option, Some, None, refl, sym, ap, subst}
 use Rattle.std.specs.Prelude.{slice_get, is_some}
 use Rattle.rand_pcg.specs.Lcg.{Lcg}
-use Rattle.lapd_tei.specs.Terminal.{new_terminal}
 use Rattle.lapd_sides_links.specs.Links.{Linked}
 use Rattle.lapd_sides_links.specs.declared.config.Config.{Config}
 use Rattle.lapd_sides.specs.Network.{Network, new_network}
-use Rattle.lapd_sides.specs.User.{User, new_user, has_tei}
+use Rattle.lapd_sides.specs.User.{User, new_user}
 use Rattle.lapd_side_events.specs.Interface.{Configs}
 use Rattle.lapd_side_events.specs.SideView.{SideView}
 use Rattle.lapd_two_side_laws.proofs.AsMade.{new_are_own, new_are_held}
 use Rattle.lapd_two_side_laws.proofs.OwnSides.{AreHeld, AreOwn}
-use Rattle.lapd_bus_laws.specs.Assignments.{awaited, is_taken, IsSingle}
+use Rattle.lapd_bus_laws.specs.Assignments.{IsSingle}
 use Rattle.lapd_side_events.specs.Bus.{Bus, BusEvent, OfTerminal, OfNetwork, Join, Restart, NewTerminal}
 use Rattle.lapd_bus_laws.specs.Holdings.{JoinsWithFree, KeepsTeisApart}
 use Rattle.lapd_bus_laws.proofs.TerminalsApart.{kept_apart}
 use Rattle.lapd_bus_laws.proofs.Assigns.{HasNoManagementLink}
-use Rattle.lapd_bus_laws.proofs.Claims.{Claims, Awaits, claim_is_taken}
-use Rattle.lapd_bus_laws.proofs.Lists.{each_set, unique_set, any_other, not_both}
 use Rattle.lapd_bus_laws.proofs.Messages.{management_id}
-use Rattle.lapd_bus_laws.proofs.Single.{fixed_of, KeepsApart, no_management, event_keeps, single_from}
+use Rattle.lapd_bus_laws.proofs.Single.{fixed_of, requests_none, KeepsApart, start_keeps, no_management, event_keeps, single_from}
 use Rattle.lapd_restart_laws.specs.Restarts.{link_after, network_after, user_after}
 use Rattle.lapd_bus_restart_laws.specs.BusAcross.{restarted_as, terminal_restarts, step_across, after_across, ThroughoutAcross}
 use Rattle.lapd_bus_restart_laws.specs.HoldingsAcross.{IsReachedAcross}
@@ -46,36 +43,14 @@ pub restarted_management : (c : Configs) (known : List ℕ) (before : Network)
 restarted_management c known before =
     ap (λ o. link_after o (before.served.links management_id)) (no_management c known)
 
--- ---- A terminal that restarts requests nothing.
-
-pub awaits_none : (fixed : Option ℕ) → awaited (new_terminal fixed) ≡ None
-awaits_none None = refl
-awaits_none (Some tei) = refl
-
 module _ (c : Configs) where
   join_keeps : (b : Bus) (j : ℕ) (new : NewTerminal) (o : Option (SideView User))
       → slice_get b.terminals j ≡ o → JoinsWithFree (Join j new) b → KeepsApart c b
       → KeepsApart c (terminal_restarts c j new o b)
   join_keeps b j new None at joins h = h
-  join_keeps b j new (Some t) at joins h =
-      let after : SideView User = restarted_as c new t in
-      record {
-        claims = λ tei. unique_set (Claims tei) b.terminals j t after at (h.claims tei) (λ claim.
-            inr (λ k u there apart other.
-            not_both (is_taken tei u) (claim_is_taken tei u other)
-            (any_other (is_taken tei) b.terminals j k u
-            (joins tei (fixed_of tei new.fixed _ claim)) there apart)));
-        references =
-            λ ri. unique_set (Awaits ri) b.terminals j t after at (h.references ri) (λ waits.
-            absurd (no_request ri (ap (has_tei ri) (sym (awaits_none new.fixed)) ∙ waits)));
-        management = h.management;
-        own = each_set (λ (u : SideView User). AreOwn u.now) b.terminals j after h.own
-            (restarted_own c.user new.fixed new.random t.now);
-        held = h.held;
-      }
-    where
-      no_request : (ri : ℕ) → has_tei ri None ≡ true → ⊥
-      no_request ri is = cc
+  join_keeps b j new (Some t) at joins h = start_keeps c b j new t (restarted_as c new t) at joins
+      (λ tei claim. fixed_of tei new.fixed _ claim) (λ ri is. requests_none ri new.fixed is)
+      (restarted_own c.user new.fixed new.random t.now) h
 
   pub event_keeps_across : (e : BusEvent) (b : Bus) → KeepsTeisApart c e b → KeepsApart c b
       → KeepsApart c (step_across c e b)

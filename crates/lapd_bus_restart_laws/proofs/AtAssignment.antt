@@ -14,10 +14,10 @@ use Rattle.lapd_two_side_laws.specs.Establishments.{LinkRecords}
 use Rattle.lapd_two_side_laws.proofs.Managed.{neither}
 use Rattle.lapd_bus_laws.specs.Assignments.{holds, is_sent, is_taken}
 use Rattle.lapd_bus_laws.specs.Holdings.{Assigns, IsClearToNetwork, KeepsTeisApart}
+use Rattle.lapd_bus_laws.proofs.Holding.{absent_at, absent_before, assigned_now}
 use Rattle.lapd_bus_laws.proofs.Lists.{Each, any_at, each_set, map_back}
 use Rattle.lapd_bus_laws.proofs.Single.{KeepsApart, event_keeps}
 use Rattle.lapd_restart_laws.specs.SafeAcross.{IsRightNow}
-use Rattle.lapd_bus_restart_laws.proofs.HoldingAcross.{absent_at, absent_before, assigned_now}
 use Rattle.lapd_bus_restart_laws.proofs.LockStep.{IsUntaken, all_without}
 use Rattle.lapd_bus_restart_laws.proofs.NoFrames.{sends_none}
 

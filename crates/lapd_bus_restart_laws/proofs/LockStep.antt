@@ -10,12 +10,12 @@ use Rattle.lapd_sides_links.specs.Links.{Reaction}
 use Rattle.lapd_sides.specs.Network.{Network}
 use Rattle.lapd_sides.specs.SideState.{SideState}
 use Rattle.lapd_sides.specs.User.{User}
-use Rattle.lapd_side_events.specs.Bus.{OverhearsNothing}
-use Rattle.lapd_side_events.specs.Interface.{Configs, Interface, Move, by_user, by_network, side_does, run, user_behaviour, network_behaviour}
+use Rattle.lapd_side_events.specs.Bus.{OverhearsNothing, left_of}
+use Rattle.lapd_side_events.specs.Interface.{Configs, Interface, by_user, by_network, side_does, user_behaviour, network_behaviour}
 use Rattle.lapd_side_events.specs.SideView.{Behaviour, SideView, SideEvent, Take, Lose, Expire, Ask, Overhear, reaction, accepted, left, does}
 use Rattle.lapd_two_side_laws.specs.Addressed.{is_for, is_poll_for, is_final_for}
-use Rattle.lapd_two_side_laws.specs.Establishments.{LinkRecord, LinkRecords, establishments_of, is_sent, number_each, side_recorded, run_recorded}
-use Rattle.lapd_two_side_laws.specs.Premises.{AreTimely, GiveTeiOnce, GivesTeiOnce, IsMoveGivingTeiOnce, IsTimely, IsTimelyMove, IsGivenOnce, is_removal}
+use Rattle.lapd_two_side_laws.specs.Establishments.{LinkRecord, LinkRecords, establishments_of, is_sent, number_each, side_recorded}
+use Rattle.lapd_two_side_laws.specs.Premises.{GivesTeiOnce, IsMoveGivingTeiOnce, IsTimely, IsTimelyMove, IsGivenOnce, is_removal}
 use Rattle.lapd_two_side_laws.specs.Primitives.{link_primitives}
 use Rattle.lapd_two_side_laws.proofs.Managed.{neither}
 use Rattle.lapd_bus_laws.specs.Assignments.{Assignment, assignment_in, is_of_tei}
@@ -23,7 +23,7 @@ use Rattle.lapd_bus_laws.specs.Links.{IsNotAssigned}
 use Rattle.lapd_bus_laws.proofs.Claims.{any_left, same_tei}
 use Rattle.lapd_bus_laws.proofs.Lists.{false_by, not_both, some_first}
 use Rattle.lapd_bus_laws.proofs.Obtains.{IsAnswer, event_obtains}
-use Rattle.lapd_bus_restart_laws.proofs.AsideAcross.{StaysAside, aside_does, aside_left}
+use Rattle.lapd_bus_laws.proofs.PremisesOfInterface.{StaysAside, aside_does, aside_left, aside_with}
 use Rattle.lapd_bus_restart_laws.proofs.OldFrames.{without_old, taken_so}
 
 -- what is recorded of a reaction
@@ -144,15 +144,8 @@ module _ (c : Configs) (id : LinkId) (low : id.tei < 127) (i : ℕ) where
     unfolding does
     user_steps same given old_left rest_left line masked_line h none quiet timely once =
         let a = reaction W event Plain in
-        let before : StaysAside c id low i Plain = record {
-          unheld = h.aside.unheld;
-          silent = record {
-            links = h.aside.silent.links;
-            line = h.aside.silent.line;
-            delivered = h.aside.silent.delivered;
-          };
-        } in
-        let aside_after = aside_does c id low i event Plain ok before quiet in
+        let before : StaysAside c id low i Plain =
+        aside_with c id low i (old ++ rest) (by_user k) h.aside in
         record {
           old_left = old_left;
           rest_left = rest_left;
@@ -164,14 +157,8 @@ module _ (c : Configs) (id : LinkId) (low : id.tei < 127) (i : ℕ) where
               (left event (all_without old ++ rest))) given
               ∙ ap (user_made a (accepted W event Plain)) masked_line;
           untaken = record {
-            aside = record {
-              unheld = aside_after.unheld;
-              silent = record {
-                links = aside_after.silent.links;
-                line = aside_after.silent.line;
-                delivered = aside_after.silent.delivered;
-              };
-            };
+            aside = aside_with c id low i (left event (old ++ rest)) (does W event Plain)
+                (aside_does c id low i event Plain ok before quiet);
             none = none;
           };
           timely = timely;
@@ -273,7 +260,6 @@ module _ (c : Configs) (id : LinkId) (low : id.tei < 127) (i : ℕ) where
         let g = accepted V event Heard in
         let same = same_reaction event k (all_without old ++ rest) (old ++ rest) in
         let given = same_accepted event k (all_without old ++ rest) (old ++ rest) in
-        let aside_after = aside_left c id low i event (by_user k) h.aside in
         record {
           old_left = old;
           rest_left = rest ++ a.effects.frames;
@@ -285,14 +271,8 @@ module _ (c : Configs) (id : LinkId) (low : id.tei < 127) (i : ℕ) where
               ((all_without old ++ rest) ++ a.effects.frames)) given
               ∙ ap (network_made a g) (append_assoc (all_without old) rest a.effects.frames);
           untaken = record {
-            aside = record {
-              unheld = aside_after.unheld;
-              silent = record {
-                links = aside_after.silent.links;
-                line = aside_after.silent.line;
-                delivered = aside_after.silent.delivered;
-              };
-            };
+            aside = aside_with c id low i ((old ++ rest) ++ a.effects.frames)
+                (left_of event (by_user k)) (aside_left c id low i event (by_user k) h.aside);
             none = h.none;
           };
           timely = timely_masked event old rest k timely;
@@ -302,16 +282,12 @@ module _ (c : Configs) (id : LinkId) (low : id.tei < 127) (i : ℕ) where
               ap (λ (b : Reaction Network). record r { network = noted id b r.network }) same;
         }
 
-  -- ---- All moves.
+  -- ---- Of any side.
 
   -- the user side overhears nothing
   abbrev pub IsPlain : Side → SideEvent → Type 0
   IsPlain side.User event = OverhearsNothing event
   IsPlain side.Network event = Unit {0}
-
-  abbrev pub ArePlain : List Move → Type 0
-  ArePlain [] = Unit {0}
-  ArePlain (move ∷ moves) = IsPlain move.side move.event × ArePlain moves
 
   pub one_step : (s : Side) (event : SideEvent) (o : List ℕ) (os rest : List (List ℕ))
       (k : Interface)
@@ -322,68 +298,3 @@ module _ (c : Configs) (id : LinkId) (low : id.tei < 127) (i : ℕ) where
       once
   one_step side.Network event o os rest k ok h timely once =
       network_step event (o ∷ os) rest k h timely once
-
-  -- The premises hold of the interface with replaced frames too, and its moves have the same
-  -- effects.
-  pub record InStep (moves : List Move) (old rest : List (List ℕ)) (k : Interface) : Type 0 where
-    pub timely : AreTimely c id moves (replaced old rest k)
-    pub once : GiveTeiOnce c id moves (replaced old rest k)
-    pub line : List (List ℕ)
-    pub ran : run c moves (replaced old rest k)
-        ≡ record (run c moves (behind old rest k)) { to_user = line }
-    pub recorded : (r : LinkRecords) → run_recorded c id moves (replaced old rest k) r
-        ≡ run_recorded c id moves (behind old rest k) r
-
-  module _ (moves : List Move) (x x_after y y_after : Interface) (to_x : x ≡ x_after)
-      (to_y : y ≡ y_after) where
-    ran_on : (line : List (List ℕ))
-        → run c moves x_after ≡ record (run c moves y_after) { to_user = line }
-        → run c moves x ≡ record (run c moves y) { to_user = line }
-    ran_on line later = ap (run c moves) to_x ∙ later
-        ∙ ap (λ (j : Interface). record (run c moves j) { to_user = line }) (sym to_y)
-
-    recorded_on : (r s : LinkRecords) → r ≡ s
-        → run_recorded c id moves x_after s ≡ run_recorded c id moves y_after s
-        → run_recorded c id moves x r ≡ run_recorded c id moves y s
-    recorded_on r s same later = ap (λ (j : Interface). run_recorded c id moves j r) to_x
-        ∙ ap (run_recorded c id moves x_after) same ∙ later
-        ∙ ap (λ (j : Interface). run_recorded c id moves j s) (sym to_y)
-
-  pub in_step : (moves : List Move) (old rest : List (List ℕ)) (k : Interface) → ArePlain moves
-      → IsUntaken old k → AreTimely c id moves (behind old rest k)
-      → GiveTeiOnce c id moves (behind old rest k) → InStep moves old rest k
-  in_step [] old rest k ok h timely once = record {
-    timely = tt;
-    once = tt;
-    line = all_without old ++ rest;
-    ran = refl;
-    recorded = λ r. refl;
-  }
-  in_step (move ∷ moves) [] rest k ok h timely once = record {
-    timely = timely;
-    once = once;
-    line = (run c (move ∷ moves) (behind [] rest k)).to_user;
-    ran = refl;
-    recorded = λ r. refl;
-  }
-  in_step (move ∷ moves) (o ∷ os) rest k ok h timely once =
-      let s = one_step move.side move.event o os rest k ok.0 h timely.0 once.0 in
-      let l = in_step moves s.old_left s.rest_left s.next ok.1 s.untaken
-      (subst (AreTimely c id moves) s.plain timely.1)
-      (subst (GiveTeiOnce c id moves) s.plain once.1) in
-      let x : Interface = replaced (o ∷ os) rest k in
-      let y : Interface = behind (o ∷ os) rest k in
-      let x_next : Interface = side_does c move.side move.event x in
-      let y_next : Interface = side_does c move.side move.event y in
-      let x_after : Interface = replaced s.old_left s.rest_left s.next in
-      let y_after : Interface = behind s.old_left s.rest_left s.next in
-      record {
-        timely = (s.timely, subst (AreTimely c id moves) (sym s.masked) l.timely);
-        once = (s.once, subst (GiveTeiOnce c id moves) (sym s.masked) l.once);
-        line = l.line;
-        ran = ran_on moves x_next x_after y_next y_after s.masked s.plain l.line l.ran;
-        recorded = λ r. (let noted_x = side_recorded c id move.side move.event x r in
-            let noted_y = side_recorded c id move.side move.event y r in
-            recorded_on moves x_next x_after y_next y_after s.masked s.plain noted_x noted_y
-            (s.recorded r) (l.recorded noted_y));
-      }

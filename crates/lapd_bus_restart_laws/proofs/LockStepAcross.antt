@@ -77,14 +77,7 @@ module _ (c : Configs) (id : LinkId) (low : id.tei < 127) (i : ℕ) where
         plain = refl;
         masked = refl;
         untaken = record {
-          aside = record {
-            unheld = a.unheld;
-            silent = record {
-              links = a.silent.links;
-              line = a.silent.line;
-              delivered = a.silent.delivered;
-            };
-          };
+          aside = a;
           none = h.none;
         };
         keeps = record {

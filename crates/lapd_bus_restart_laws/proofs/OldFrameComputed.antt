@@ -2,15 +2,12 @@
 use Rattle.std.proofs.Common.{[], ◌∷◌, refl}
 use Rattle.lapd_link_definition.specs.Procedures.{start}
 use Rattle.lapd_sides.specs.Worked as sides
-use Rattle.lapd_side_events.specs.Bus.{Bus, new_bus, bus_step}
+use Rattle.lapd_side_events.specs.Bus.{bus_step}
 use Rattle.lapd_two_side_laws.specs.Primitives.{link_primitives, AreExpectedOfLink}
 use Rattle.lapd_two_side_laws.specs.Schedule.{configs, call}
 use Rattle.lapd_bus_laws.specs.Holdings.{KeepsTeisApart, Assigns, IsOnlyClaimant, IsClearToNetwork}
-use Rattle.lapd_bus_laws.specs.Links.{Throughout}
 use Rattle.lapd_bus_laws.specs.Runs.{assigns_first, waiting_terminal}
-use Rattle.lapd_bus_laws.proofs.TerminalsApart.{new_are_apart}
-use Rattle.lapd_bus_laws.proofs.Checks as checks
-use Rattle.lapd_bus_laws.proofs.Checks.{keeps_teis_apart, keeps_teis_apart_so, no_fixed_is_single, assigns_now_so, only_claimant_so, is_clear_so}
+use Rattle.lapd_bus_laws.proofs.Checks.{keeps_teis_apart_so, reached_from_none, assigns_now_so, only_claimant_so, is_clear_so}
 use Rattle.lapd_restart_laws.specs.Restarts.{losses}
 use Rattle.lapd_bus_restart_laws.specs.BusAcross.{after_across, ThroughoutAcross}
 use Rattle.lapd_bus_restart_laws.specs.HoldingsAcross.{IsReachedAcross, KeepsHoldingAcross}
@@ -18,28 +15,12 @@ use Rattle.lapd_bus_restart_laws.specs.OldFrames.{leaves_old_frame, with_old_fra
 use Rattle.lapd_bus_restart_laws.proofs.ChecksAcross.{throughout_by, keeps_holding, keeps_holding_so}
 use Rattle.lapd_two_side_laws.proofs.ComputedEvents.{computed_events}
 
-abbrev First : Bus
-First = new_bus configs [] (waiting_terminal sides.random ∷ [])
-
-events_apart : Throughout configs (KeepsTeisApart configs) leaves_old_frame First
-unfolding computed_events losses
-events_apart = checks.throughout_by configs (KeepsTeisApart configs) (keeps_teis_apart configs)
-    (keeps_teis_apart_so configs) leaves_old_frame First refl
-
 pub old_frame_reached : IsReachedAcross configs with_old_frame
+unfolding computed_events
 old_frame_reached = record {
   start = with_old_frame;
-  first = record {
-    known = [];
-    terminals = waiting_terminal sides.random ∷ [];
-    events = leaves_old_frame;
-    before = [];
-    of_bus = tt;
-    start = new_are_apart configs [] (waiting_terminal sides.random ∷ [])
-        (no_fixed_is_single configs [] (waiting_terminal sides.random ∷ []) refl);
-    apart = events_apart;
-    reached = refl;
-  };
+  first = reached_from_none configs [] (waiting_terminal sides.random ∷ []) refl leaves_old_frame
+      refl;
   events = [];
   apart = tt;
   reached = refl;

@@ -1,20 +1,21 @@
 -- The worked runs of a bus with restarts, computed.
-use Rattle.std.proofs.Common.{◌≡◌, ℕ, List, [], ◌∷◌, Option, Some, None, refl}
+use Rattle.std.proofs.Common.{◌≡◌, ℕ, [], ◌∷◌, refl}
 use Rattle.std.specs.Prelude.{Vec, slice_get, map}
 use Rattle.std.specs.declared.alloc.Global.{Global}
 use Rattle.lapd_sides.specs.User.{User}
 use Rattle.lapd_link_definition.specs.declared.out.Letter.TheVariants as letter
 use Rattle.lapd_pair_laws.specs.Schedule.{two_messages}
 use Rattle.lapd_sides_links.specs.declared.primitive.What.TheVariants as what
-use Rattle.lapd_two_side_laws.specs.Primitives.{link_primitives, given_to, known_of, AreExpectedOfLink}
+use Rattle.lapd_two_side_laws.specs.Primitives.{link_primitives, known_of, AreExpectedOfLink}
 use Rattle.lapd_two_side_laws.specs.Schedule.{configs, IsMessage}
 use Rattle.lapd_side_events.specs.SideView.{SideView}
-use Rattle.lapd_two_side_laws.proofs.Computed.{Fits, holding, with_both, second_for_first}
-use Rattle.lapd_side_events.specs.Bus.{Bus, from_now}
+use Rattle.lapd_two_side_laws.proofs.Computed.{Fits, holding, with_both, with_four}
+use Rattle.lapd_side_events.specs.Bus.{from_now}
 use Rattle.lapd_bus_laws.specs.HoldingRuns.{IsReceivedByNetwork}
 use Rattle.lapd_bus_laws.specs.Holdings.{IsOfBus, RequestsByItsOwn, IsOnlyClaimant}
 use Rattle.lapd_bus_laws.specs.Links.{IsTimelyFor, AssignsOthers}
 use Rattle.lapd_bus_laws.specs.Runs.{two_fixed, fixed_call}
+use Rattle.lapd_bus_laws.proofs.HoldingRunsComputed.{given_at, acked_at, not_by_network}
 use Rattle.lapd_bus_laws.proofs.Checks.{of_bus, of_bus_so, timely_for, timely_for_so, assigns_others, assigns_others_so, requests_by_its_own, requests_by_its_own_so, only_claimant_so}
 use Rattle.lapd_restart_laws.specs.Restarts.{losses}
 use Rattle.lapd_bus_restart_laws.specs.BusAcross.{after_across, ThroughoutAcross}
@@ -55,11 +56,7 @@ across_both_holds s t u v w x y z = record {
 pub across_both_so : (first answer second third : Vec ℕ Global) → IsMessage 1 first
     → IsMessage 2 answer → IsMessage 3 second → IsMessage 4 third
     → AcrossBoth first answer second third
-across_both_so first answer second third one two three four =
-    with_both (λ s t. AcrossBoth s t second third) (1 ∷ []) (2 ∷ []) (λ s t w x.
-    with_both (λ u v. AcrossBoth (holding s (1 ∷ []) w) (holding t (2 ∷ []) x) u v) (3 ∷ [])
-    (4 ∷ []) (λ u v y z. across_both_holds s t u v w x y z) second third three four)
-    first answer one two
+across_both_so = with_four AcrossBoth (1 ∷ []) (2 ∷ []) (3 ∷ []) (4 ∷ []) across_both_holds
 
 pub fixed_only : IsOnlyClaimant 0 0 two_fixed
 unfolding computed_events losses
@@ -88,31 +85,11 @@ command_is_not_expected h = h.0
 
 -- ---- The link exists again.
 
-abbrev given_at : Option (SideView User) → List (List ℕ)
-given_at None = []
-given_at (Some t) = given_to fixed_call t.given
-
-abbrev acked_at : Option (SideView User) → List ℕ
-acked_at None = []
-acked_at (Some t) = (known_of fixed_call t.delivered).acked
-
--- the first message counts as acknowledged, and the second alone was received
-not_by_network : (b : Bus) → given_at (slice_get b.terminals 0) ≡ two_messages
-    → acked_at (slice_get b.terminals 0) ≡ 0 ∷ []
-    → (known_of fixed_call b.delivered).received ≡ (2 ∷ []) ∷ []
-    → IsReceivedByNetwork fixed_call 0 b → ⊥
-not_by_network b given acked received h = by (slice_get b.terminals 0) refl given acked
-  where
-    by : (o : Option (SideView User)) → slice_get b.terminals 0 ≡ o → given_at o ≡ two_messages
-        → acked_at o ≡ 0 ∷ [] → ⊥
-    by None at is acks = cc
-    by (Some t) at is acks = second_for_first _ _ _ is acks received (h t at)
-
 pub record ComesBack (first second : Vec ℕ Global) : Type 0 where
   pub keeps : KeepsAllButRestarting fixed_call 0 (comes_back first second) alone
-  pub given : given_at (slice_get (after_across configs (comes_back first second)
+  pub given : given_at fixed_call (slice_get (after_across configs (comes_back first second)
       alone).terminals 0) ≡ two_messages
-  pub acked : acked_at (slice_get (after_across configs (comes_back first second)
+  pub acked : acked_at fixed_call (slice_get (after_across configs (comes_back first second)
       alone).terminals 0) ≡ 0 ∷ []
   pub received : (known_of fixed_call (after_across configs (comes_back first second)
       alone).delivered).received ≡ (2 ∷ []) ∷ []
@@ -147,5 +124,5 @@ pub comes_back_is_not_right : (first second : Vec ℕ Global) → IsMessage 1 fi
     → IsReceivedByNetwork fixed_call 0 (after_across configs (comes_back first second) alone) → ⊥
 comes_back_is_not_right first second one two =
     let h = comes_back_so first second one two in
-    not_by_network (after_across configs (comes_back first second) alone) h.given h.acked
+    not_by_network fixed_call (after_across configs (comes_back first second) alone) h.given h.acked
     h.received

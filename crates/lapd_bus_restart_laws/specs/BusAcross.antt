@@ -7,6 +7,7 @@ use Rattle.lapd_sides.specs.User.{User, new_user}
 use Rattle.lapd_side_events.specs.Interface.{Configs}
 use Rattle.lapd_side_events.specs.SideView.{SideView}
 use Rattle.lapd_side_events.specs.Bus.{Bus, BusEvent, Join, Restart, NewTerminal, with_terminal, bus_step, interface_of, moves_of}
+use Rattle.lapd_bus_laws.specs.Links.{ThroughoutBy}
 use Rattle.lapd_restart_laws.specs.Restarts.{Change, NetworkRestarts, UserRestarts, network_after, user_after, losses, run_across}
 use Rattle.lapd_restart_laws.specs.RestartRuns.{moved}
 
@@ -51,8 +52,7 @@ RestartsNone event = Unit {0}
 
 -- Each of these events has this property, in the bus that it happens on.
 abbrev pub ThroughoutAcross : Configs → (BusEvent → Bus → Type 0) → List BusEvent → Bus → Type 0
-ThroughoutAcross c P [] b = Unit {0}
-ThroughoutAcross c P (e ∷ es) b = P e b × ThroughoutAcross c P es (step_across c e b)
+ThroughoutAcross c P events b = ThroughoutBy (step_across c) P events b
 
 -- ---- The changes of a terminal's interface that an event of the bus is.
 

@@ -4,19 +4,12 @@ use Rattle.lapd_frame.specs.declared.Side.TheVariants as side
 use Rattle.lapd_table.specs.declared.link_id.LinkId.{LinkId}
 use Rattle.lapd_sides.specs.Network.{new_network}
 use Rattle.lapd_sides.specs.User.{User, new_user}
-use Rattle.lapd_side_events.specs.Interface.{Configs, network_behaviour}
-use Rattle.lapd_two_side_laws.specs.Premises.{GivesTeiOnce}
+use Rattle.lapd_side_events.specs.Interface.{Configs}
 use Rattle.lapd_side_events.specs.SideView.{SideView}
-use Rattle.lapd_side_events.specs.Bus.{Bus, BusEvent, OfNetwork, Join, Restart, on_line_of}
+use Rattle.lapd_side_events.specs.Bus.{Bus, BusEvent, Join, Restart, on_line_of}
 use Rattle.lapd_bus_laws.specs.Holdings.{IsOfBus}
-use Rattle.lapd_bus_laws.specs.Links.{IsTimelyFor, ObtainsOnce}
+use Rattle.lapd_bus_laws.specs.Links.{IsTimelyFor, AssignsOnce, ObtainsOnce}
 use Rattle.lapd_restart_laws.specs.RestartPremises.{IsQuick}
-
--- The network does not assign the TEI while it has the link, nor after the TEI was removed.
-abbrev pub AssignsOnce : Configs → LinkId → BusEvent → Bus → Type 0
-AssignsOnce c id (OfNetwork j event) b = (t : SideView User) → slice_get b.terminals j ≡ Some t
-    → GivesTeiOnce (network_behaviour c.network) id event (on_line_of t b)
-AssignsOnce c id other b = Unit {0}
 
 -- The terminal at this index does not obtain the TEI while it has the link, nor after it lost the
 -- TEI. No other terminal obtains it or restarts with it.

@@ -10,7 +10,7 @@ use Rattle.lapd_two_side_laws.specs.Primitives.{link_primitives}
 use Rattle.lapd_two_side_laws.specs.Schedule.{at_first, call, configs, IsMessage}
 use Rattle.lapd_two_side_laws.proofs.Computed.{Fits, holding, with_octets}
 use Rattle.lapd_restart_laws.specs.Restarts.{Change, Moves, NetworkRestarts, UserRestarts, changes, losses, run_across}
-use Rattle.lapd_bus_laws.proofs.Lists.{both_so}
+use Rattle.lapd_link_definition.proofs.Sending.{both_true}
 use Rattle.lapd_clock_laws.specs.Across.{AreInTimeAcross, IsChangeInTime, KeepTeiAsMade, OverhearOthersAcross, clock_across, restarts_at_half}
 use Rattle.lapd_clock_laws.specs.Clock.{Clock, new_clock}
 use Rattle.lapd_clock_laws.specs.InTime.{IsInTime}
@@ -39,7 +39,7 @@ module _ (longest : ℕ) (c : Configs) (id : LinkId) where
       → AreInTimeAcross longest c id all i k
   across_so [] i k h = tt
   across_so (change ∷ later) i k h =
-      let two = both_so (change_passes change i k)
+      let two = both_true (change_passes change i k)
       (passes_across later (changes c change i) (clock_across c change i k)) h in (
         change_so change i k two.0,
         across_so later (changes c change i) (clock_across c change i k) two.1,

@@ -53,14 +53,14 @@ pub record Holds {S : Type 0} (longest : ℕ) (side other : Side) (id : LinkId)
   pub own_long : RunsLong (2 * longest) own
   pub other_long : RunsLong (2 * longest) link
 
-sent_by_then : (from : Side) (id : LinkId) (now next : ℕ) (line : List Sent) → now ≤ next
+pub sent_by_then : (from : Side) (id : LinkId) (now next : ℕ) (line : List Sent) → now ≤ next
     → AreSent from id (λ at. at ≤ now) line → AreSent from id (λ at. at ≤ next) line
 sent_by_then from id now next line later past = All-weaker
     (λ (sent : Sent). is_for from id sent.octets ≡ true → sent.at ≤ now)
     (λ (sent : Sent). is_for from id sent.octets ≡ true → sent.at ≤ next)
     (λ sent before its. (let by_now = before its in omega (arith, by_now, later))) line past
 
-sent_just_now : (from : Side) (id : LinkId) (now : ℕ) (frames : List (List ℕ))
+pub sent_just_now : (from : Side) (id : LinkId) (now : ℕ) (frames : List (List ℕ))
     → AreSent from id (λ at. at ≤ now) (sent_at now frames)
 sent_just_now from id now [] =
     All-nil (λ (sent : Sent). is_for from id sent.octets ≡ true → sent.at ≤ now)

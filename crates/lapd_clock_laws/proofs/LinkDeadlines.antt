@@ -28,11 +28,12 @@ use Rattle.lapd_tei.specs.Out.{tei_given, tei_freed}
 use Rattle.lapd_table.specs.declared.link_id.LinkId.{LinkId}
 use Rattle.lapd_table.specs.LinkId.{setup_for}
 use Rattle.lapd_sides_links.specs.declared.config.Config.{Config}
-use Rattle.lapd_sides_links.specs.Effects.{Effects, sent_by, message_sent, timed, timed_by, started, stopped}
+use Rattle.lapd_sides_links.specs.Effects.{Effects, sent_by, message_sent, timed, started, stopped}
 use Rattle.lapd_sides_links.specs.Links.{Links, Linked, Served, new_linked, or_new, parameters_for, is_link_of, with_tei, without_tei}
 use Rattle.lapd_sides.specs.Management.{links_with, links_without, manages}
 use Rattle.lapd_two_side_laws.specs.Addressed.{is_for, those_for, reads_as_poll, reads_as_final, is_poll_for, is_final_for}
 use Rattle.lapd_two_side_laws.specs.Owed.{PassesBy, IsStep}
+use Rattle.lapd_two_side_laws.proofs.OwedAnswers.{durations_stay}
 use Rattle.lapd_two_side_laws.proofs.Lines.{any_among}
 use Rattle.lapd_two_side_laws.proofs.LinkParts.{none_pass}
 use Rattle.lapd_two_side_laws.proofs.Managed.{message_is_other, neither}
@@ -128,23 +129,6 @@ t200_timed now (Send Answer control ∷ outs) owing t nothing_owed =
 t200_timed now (other ∷ outs) owing t nothing_owed =
     one_unset now other outs owing t t (timed now outs t) refl refl (λ h. (h, refl))
     (t200_timed now outs owing t nothing_owed)
-
-durations_by : (now : ℕ) (out : Out) (t : Timers) → (timed_by now out t).durations ≡ t.durations
-durations_by now (Start T200) t = refl
-durations_by now (Start T201) t = refl
-durations_by now (Start T202) t = refl
-durations_by now (Start T203) t = refl
-durations_by now (Stop T200) t = refl
-durations_by now (Stop T201) t = refl
-durations_by now (Stop T202) t = refl
-durations_by now (Stop T203) t = refl
-durations_by now other t = refl
-
-durations_stay : (now : ℕ) (outs : List Out) (t : Timers)
-    → (timed now outs t).durations ≡ t.durations
-durations_stay now [] t = refl
-durations_stay now (out ∷ outs) t =
-    durations_stay now outs (timed_by now out t) ∙ durations_by now out t
 
 -- ---- The frames of a step.
 

@@ -1,5 +1,5 @@
 -- The worked runs, computed.
-use Rattle.std.proofs.Common.{Bool, ◌≡◌, inl, ℕ, ◌&&◌, List, [], ◌∷◌, true, false, Some, refl, sym}
+use Rattle.std.proofs.Common.{Bool, ◌≡◌, ℕ, ◌&&◌, List, [], ◌∷◌, true, false, Some, refl}
 use Rattle.std.specs.Prelude.{Vec, is_some, slice_get}
 use Rattle.std.specs.declared.alloc.Global.{Global}
 use Rattle.lapd_pair_laws.specs.Schedule.{one_message, two_messages}
@@ -7,14 +7,15 @@ use Rattle.lapd_sides_links.specs.declared.primitive.What.TheVariants as what
 use Rattle.lapd_side_events.specs.Bus.{Bus, BusEvent, OfTerminal, OfNetwork, Join, Restart, after_events, from_now, interface_of, moves_along}
 use Rattle.lapd_side_events.specs.Interface.{Configs, from_here, Interface, Move, run}
 use Rattle.lapd_two_side_laws.specs.Premises.{AreTimely, GiveTeiOnce}
-use Rattle.lapd_two_side_laws.specs.Primitives.{IsReceived, given_to, known_of, link_primitives}
+use Rattle.lapd_two_side_laws.specs.Primitives.{given_to, known_of, link_primitives}
 use Rattle.lapd_two_side_laws.specs.Projects.{IsReceivedByUser}
 use Rattle.lapd_two_side_laws.specs.Schedule.{at_first, call, configs, IsMessage}
-use Rattle.lapd_two_side_laws.proofs.Computed.{Fits, differ, holding, one_of, received_as, with_both, with_octets}
+use Rattle.lapd_two_side_laws.proofs.MoveTests.{give_once}
+use Rattle.lapd_two_side_laws.proofs.Computed.{Fits, first_for_second, holding, with_both, with_octets}
 use Rattle.lapd_bus_laws.specs.Links.{Throughout as bus_throughout}
 use Rattle.lapd_bus_laws.specs.Runs.{fixed_call, two_fixed}
 use Rattle.lapd_bus_laws.proofs.Checks.{keeps_holding, keeps_holding_so, passes as bus_passes, throughout_by}
-use Rattle.lapd_bus_laws.proofs.Lists.{both_so}
+use Rattle.lapd_link_definition.proofs.Sending.{both_true}
 use Rattle.lapd_clock_laws.specs.Buses.{HasLine, KeepsTei}
 use Rattle.lapd_clock_laws.specs.Clock.{new_clock}
 use Rattle.lapd_clock_laws.specs.InTime.{AreInTime, IsInOrder, IsInRange, IsPrompt, IsWhenDue, OverhearOthers, Premise, TakesFirst, Throughout}
@@ -64,11 +65,7 @@ pub record IsHasty (c : Configs) (i : Interface) (test : Test) (moves : List Mov
 pub hasty_is_not_right : (c : Configs) (i : Interface) (test : Test) (moves : List Move)
     → IsHasty c i test moves → IsReceivedByUser call (run c moves i) → ⊥
 hasty_is_not_right c i test moves h right =
-    let plain : IsReceived two_messages (1 ∷ []) one_message =
-    received_as _ two_messages _ (1 ∷ []) _ one_message (sym h.given) (sym h.acked)
-    (sym h.received) right in
-    differ (sym (one_of (λ place. slice_get two_messages place) (Some (1 ∷ [])) plain.places 1
-    plain.same (plain.acknowledged 1 (inl refl))))
+    first_for_second _ _ _ h.given h.acked h.received right
 
 -- T200 is one millisecond less than twice the time of a frame
 abbrev AtHurried : Vec ℕ Global → Vec ℕ Global → Type 0
@@ -80,22 +77,8 @@ hurried_holds : (v w : Vec ℕ Global) (x : Fits v (1 ∷ [])) (y : Fits w (2 �
 unfolding whole_table
 hurried_holds v w x y = record {
   passed = refl;
-  once = (
-    λ there. refl,
-    (
-      λ there. refl,
-      (
-        λ there. refl,
-        (
-          λ there. refl,
-          (
-            λ there. refl,
-            (λ there. refl, (λ there. refl, (λ there. refl, (λ there. refl, tt)))),
-          ),
-        ),
-      ),
-    ),
-  );
+  once = give_once hurried_configs call (hasty_at 500 999 1000 (holding v (1 ∷ []) x) (holding w (2 ∷ []) y))
+      hurried_at_first refl;
   given = refl;
   acked = refl;
   received = refl;
@@ -119,22 +102,8 @@ too_early_holds : (v w : Vec ℕ Global) (x : Fits v (1 ∷ [])) (y : Fits w (2 
 unfolding whole_table
 too_early_holds v w x y = record {
   passed = refl;
-  once = (
-    λ there. refl,
-    (
-      λ there. refl,
-      (
-        λ there. refl,
-        (
-          λ there. refl,
-          (
-            λ there. refl,
-            (λ there. refl, (λ there. refl, (λ there. refl, (λ there. refl, tt)))),
-          ),
-        ),
-      ),
-    ),
-  );
+  once = give_once configs call (hasty_at 500 999 1000 (holding v (1 ∷ []) x) (holding w (2 ∷ []) y))
+      at_first refl;
   given = refl;
   acked = refl;
   received = refl;
@@ -158,22 +127,8 @@ not_first_holds : (v w : Vec ℕ Global) (x : Fits v (1 ∷ [])) (y : Fits w (2 
 unfolding whole_table
 not_first_holds v w x y = record {
   passed = refl;
-  once = (
-    λ there. refl,
-    (
-      λ there. refl,
-      (
-        λ there. refl,
-        (
-          λ there. refl,
-          (
-            λ there. refl,
-            (λ there. refl, (λ there. refl, (λ there. refl, (λ there. refl, tt)))),
-          ),
-        ),
-      ),
-    ),
-  );
+  once = give_once configs call (hasty_at 500 1000 1000 (holding v (1 ∷ []) x) (holding w (2 ∷ []) y))
+      at_first refl;
   given = refl;
   acked = refl;
   received = refl;
@@ -197,22 +152,8 @@ not_prompt_holds : (v w : Vec ℕ Global) (x : Fits v (1 ∷ [])) (y : Fits w (2
 unfolding whole_table
 not_prompt_holds v w x y = record {
   passed = refl;
-  once = (
-    λ there. refl,
-    (
-      λ there. refl,
-      (
-        λ there. refl,
-        (
-          λ there. refl,
-          (
-            λ there. refl,
-            (λ there. refl, (λ there. refl, (λ there. refl, (λ there. refl, tt)))),
-          ),
-        ),
-      ),
-    ),
-  );
+  once = give_once configs call (hasty_at 501 1000 1001 (holding v (1 ∷ []) x) (holding w (2 ∷ []) y))
+      at_first refl;
   given = refl;
   acked = refl;
   received = refl;
@@ -343,7 +284,7 @@ keeps_tei e b = keeps_holding configs fixed_call 0 e b && has_line e b
 
 keeps_tei_so : (e : BusEvent) (b : Bus) → keeps_tei e b ≡ true → KeepsTei configs fixed_call 0 e b
 keeps_tei_so e b h =
-    let two = both_so (keeps_holding configs fixed_call 0 e b) (has_line e b) h in
+    let two = both_true (keeps_holding configs fixed_call 0 e b) (has_line e b) h in
     let kept = keeps_holding_so configs fixed_call 0 e b two.0 in
     record {
       leaves = kept.leaves;

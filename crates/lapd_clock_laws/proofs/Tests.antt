@@ -6,17 +6,17 @@ use Rattle.std.proofs.lemmas.Bool.Decides.{nat_tests}
 use Rattle.std.proofs.lemmas.List.Elements.{All-nil, All-cons}
 use Rattle.lapd_timers.specs.declared.timer.Timer.{Timer}
 use Rattle.lapd_timers.specs.declared.timer.Timer.TheVariants.{T200, T201, T202, T203}
-use Rattle.lapd_timers.specs.Due.{last_moment}
+use Rattle.lapd_timers.specs.Due.{deadline_of, last_moment}
 use Rattle.lapd_frame.specs.declared.Side.{Side}
 use Rattle.lapd_frame.specs.declared.Side.TheVariants as side
 use Rattle.lapd_frame.specs.Address.{other_side}
 use Rattle.lapd_table.specs.declared.link_id.LinkId.{LinkId}
 use Rattle.lapd_sides_links.specs.Expiries.{IsPast, of_served}
-use Rattle.lapd_sides_links.specs.Links.{Linked, Served}
+use Rattle.lapd_sides_links.specs.Links.{IsOfLink, Linked, Served}
 use Rattle.lapd_side_events.specs.Interface.{Configs, Interface, Move, happens}
 use Rattle.lapd_side_events.specs.SideView.{SideEvent, Take, Lose, Expire, Ask, Overhear}
 use Rattle.lapd_two_side_laws.specs.Addressed.{is_for}
-use Rattle.lapd_bus_laws.proofs.Lists.{both_so}
+use Rattle.lapd_link_definition.proofs.Sending.{both_true}
 use Rattle.lapd_clock_laws.specs.Clock.{Clock, Sent, SideClock, clock_after, moment_of, network_clock, user_clock}
 use Rattle.lapd_clock_laws.specs.InTime.{AreSent, IsInOrder, IsInRange, IsInTime, IsPrompt, IsWhenDue, OfMove, Premise, TakesFirst, Throughout}
 
@@ -50,7 +50,7 @@ pub throughout_so : (c : Configs) (P : Premise) (test : Test) → IsSound P test
     → Throughout c P moves i k
 throughout_so c P test sound [] i k h = tt
 throughout_so c P test sound (move ∷ moves) i k h =
-    let two = both_so (of_move test move.side move.event i k)
+    let two = both_true (of_move test move.side move.event i k)
     (passes c test moves (happens c move i) (clock_after c move.side move.event i k)) h in (
       move_so P test sound move.side move.event i k two.0,
       throughout_so c P test sound moves (happens c move i)
@@ -61,7 +61,7 @@ pub both_sound : (P Q : Premise) (a b : Test) → IsSound P a → IsSound Q b
     → IsSound (λ side event s k. P side event s k × Q side event s k)
     (λ side event s k. a side event s k && b side event s k)
 both_sound P Q a b one other side event s k h =
-    let two = both_so (a side event s k) (b side event s k) h in
+    let two = both_true (a side event s k) (b side event s k) h in
     (one side event s k two.0, other side event s k two.1)
 
 -- ---- Octets in transit.
@@ -80,7 +80,7 @@ are_sent_so : (from : Side) (id : LinkId) (P : ℕ → Type 0) (test : ℕ → B
 are_sent_so from id P test sound [] h =
     All-nil (λ (sent : Sent). is_for from id sent.octets ≡ true → P sent.at)
 are_sent_so from id P test sound (sent ∷ line) h =
-    let two = both_so (not (is_for from id sent.octets) || test sent.at)
+    let two = both_true (not (is_for from id sent.octets) || test sent.at)
     (are_sent from id test line) h in
     All-cons (λ (sent : Sent). is_for from id sent.octets ≡ true → P sent.at) sent line
     (λ its. sound sent.at (its_own (is_for from id sent.octets) (test sent.at) two.0 its))
@@ -117,7 +117,7 @@ pub prompt_so : (longest : ℕ) (id : LinkId)
     → IsSound (λ side event s k. IsPrompt longest side id event k) (prompt longest id)
 prompt_so longest id side event s k h =
     let soon = λ (at : ℕ). nat_le (moment_of event k.now) (at + longest) in
-    let two = both_so (are_sent (other_side side) id soon k.incoming)
+    let two = both_true (are_sent (other_side side) id soon k.incoming)
     (are_sent side id soon k.outgoing) h in
     record {
       to_side = are_sent_so (other_side side) id (λ at. moment_of event k.now ≤ at + longest)
@@ -160,34 +160,17 @@ abbrev PastAt : Timer → Option LinkId → ℕ → Served → Type 0
 PastAt timer of now s = (deadline : ℕ)
     × IsPast now (of_served s) (record { deadline = deadline; timer = timer; of = of })
 
-t200_past : (other : LinkId) (now : ℕ) (s : Served) (l : Linked) (o : Option ℕ)
-    → s.links other ≡ Some l → l.timers.t200 ≡ o → is_by o now ≡ true
-    → PastAt T200 (Some other) now s
-t200_past other now s l None there is h = cc
-t200_past other now s l (Some deadline) there is h = (
+timer_past : (timer : Timer) (other : LinkId) (now : ℕ) (s : Served) (l : Linked) (o : Option ℕ)
+    → IsOfLink timer → s.links other ≡ Some l → deadline_of timer l.timers ≡ o
+    → is_by o now ≡ true → PastAt timer (Some other) now s
+timer_past timer other now s l None own there is h = cc
+timer_past timer other now s l (Some deadline) own there is h = (
   deadline,
   record {
     runs = record {
       its = l.timers;
       there = ap (λ (o : Option Linked). option_map (λ (l : Linked). l.timers) o) there;
-      own = tt;
-      until = is;
-    };
-    is_past = at_most deadline now h;
-  },
-)
-
-t203_past : (other : LinkId) (now : ℕ) (s : Served) (l : Linked) (o : Option ℕ)
-    → s.links other ≡ Some l → l.timers.t203 ≡ o → is_by o now ≡ true
-    → PastAt T203 (Some other) now s
-t203_past other now s l None there is h = cc
-t203_past other now s l (Some deadline) there is h = (
-  deadline,
-  record {
-    runs = record {
-      its = l.timers;
-      there = ap (λ (o : Option Linked). option_map (λ (l : Linked). l.timers) o) there;
-      own = tt;
+      own = own;
       until = is;
     };
     is_past = at_most deadline now h;
@@ -197,8 +180,10 @@ t203_past other now s l (Some deadline) there is h = (
 link_past : (timer : Timer) (other : LinkId) (now : ℕ) (s : Served) (o : Option Linked)
     → s.links other ≡ o → link_is_due timer o now ≡ true → PastAt timer (Some other) now s
 link_past timer other now s None there h = cc
-link_past T200 other now s (Some l) there h = t200_past other now s l l.timers.t200 there refl h
-link_past T203 other now s (Some l) there h = t203_past other now s l l.timers.t203 there refl h
+link_past T200 other now s (Some l) there h =
+    timer_past T200 other now s l l.timers.t200 tt there refl h
+link_past T203 other now s (Some l) there h =
+    timer_past T203 other now s l l.timers.t203 tt there refl h
 link_past T201 other now s (Some l) there h = cc
 link_past T202 other now s (Some l) there h = cc
 
@@ -221,10 +206,10 @@ in_time longest id side event s k = in_order side event s k
 
 pub in_time_so : (longest : ℕ) (id : LinkId) → IsSound (IsInTime longest id) (in_time longest id)
 in_time_so longest id side event s k h =
-    let one = both_so (in_order side event s k) _ h in
-    let two = both_so (in_range longest side event s k) _ one.1 in
-    let three = both_so (prompt longest id side event s k) _ two.1 in
-    let four = both_so (takes_first longest id side event s k) (when_due id side event s k)
+    let one = both_true (in_order side event s k) _ h in
+    let two = both_true (in_range longest side event s k) _ one.1 in
+    let three = both_true (prompt longest id side event s k) _ two.1 in
+    let four = both_true (takes_first longest id side event s k) (when_due id side event s k)
     three.1 in
     record {
       in_order = in_order_so side event s k one.0;

@@ -5,4 +5,5 @@ pub mod RestartedSides
 pub mod Across
 pub mod AcrossAsMade
 pub mod NewSides
+pub mod RestartTests
 pub mod RestartsComputed

@@ -7,7 +7,7 @@ use Rattle.lapd_frame.specs.declared.Role.{Role}
 use Rattle.lapd_frame.specs.declared.Role.TheVariants.{Command, Answer}
 use Rattle.lapd_frame.specs.declared.Side.{Side}
 use Rattle.lapd_frame.specs.declared.Control.{Control}
-use Rattle.lapd_frame.specs.declared.Control.TheVariants.{I, Rr, Rnr, Rej, Sabme, Dm, Ui, Disc, Ua, Frmr, Xid}
+use Rattle.lapd_frame.specs.declared.Control.TheVariants.{Rr, Rnr, Rej, Sabme, Dm, Disc, Ua}
 use Rattle.lapd_frame.specs.Address.{other_side}
 use Rattle.lapd_frame.specs.Reading.{frame_at}
 use Rattle.lapd_pair_laws.specs.Consistent.{AreProper}
@@ -26,67 +26,33 @@ use Rattle.lapd_restart_laws.specs.Exchanges.{is_command, is_answer, reads_as, i
 
 asks_none : (role : Role) (control : Control) (info : List ℕ) (place : ℕ)
     → is_command control ≡ false → ask_of (kind_of role control info place) ≡ 0
-asks_none Command (I ns nr p) info place unlike = refl
-asks_none Command (Rr nr true) info place unlike = refl
-asks_none Command (Rr nr false) info place unlike = refl
-asks_none Command (Rnr nr true) info place unlike = refl
-asks_none Command (Rnr nr false) info place unlike = refl
-asks_none Command (Rej nr pf) info place unlike = refl
 asks_none Command (Sabme p) info place unlike = cc
-asks_none Command (Dm f) info place unlike = refl
-asks_none Command (Ui p) info place unlike = refl
 asks_none Command (Disc p) info place unlike = cc
-asks_none Command (Ua f) info place unlike = refl
-asks_none Command (Frmr f) info place unlike = refl
-asks_none Command (Xid pf) info place unlike = refl
-asks_none Answer (I ns nr p) info place unlike = refl
-asks_none Answer (Rr nr true) info place unlike = refl
-asks_none Answer (Rr nr false) info place unlike = refl
-asks_none Answer (Rnr nr true) info place unlike = refl
-asks_none Answer (Rnr nr false) info place unlike = refl
-asks_none Answer (Rej nr true) info place unlike = refl
-asks_none Answer (Rej nr false) info place unlike = refl
 asks_none Answer (Sabme p) info place unlike = cc
-asks_none Answer (Dm true) info place unlike = refl
-asks_none Answer (Dm false) info place unlike = refl
-asks_none Answer (Ui p) info place unlike = refl
 asks_none Answer (Disc p) info place unlike = cc
+asks_none Command (Rr nr true) info place unlike = refl
+asks_none Command (Rnr nr true) info place unlike = refl
+asks_none Answer (Rr nr true) info place unlike = refl
+asks_none Answer (Rnr nr true) info place unlike = refl
+asks_none Answer (Rej nr true) info place unlike = refl
+asks_none Answer (Dm true) info place unlike = refl
 asks_none Answer (Ua true) info place unlike = refl
-asks_none Answer (Ua false) info place unlike = refl
-asks_none Answer (Frmr f) info place unlike = refl
-asks_none Answer (Xid pf) info place unlike = refl
+asks_none role control info place unlike = refl
 
 answers_none : (role : Role) (control : Control) (info : List ℕ) (place : ℕ)
     → is_answer control ≡ false → answer_of (kind_of role control info place) ≡ 0
-answers_none Command (I ns nr p) info place unlike = refl
-answers_none Command (Rr nr true) info place unlike = refl
-answers_none Command (Rr nr false) info place unlike = refl
-answers_none Command (Rnr nr true) info place unlike = refl
-answers_none Command (Rnr nr false) info place unlike = refl
-answers_none Command (Rej nr pf) info place unlike = refl
-answers_none Command (Sabme true) info place unlike = refl
-answers_none Command (Sabme false) info place unlike = refl
 answers_none Command (Dm f) info place unlike = cc
-answers_none Command (Ui p) info place unlike = refl
-answers_none Command (Disc true) info place unlike = refl
-answers_none Command (Disc false) info place unlike = refl
 answers_none Command (Ua f) info place unlike = cc
-answers_none Command (Frmr f) info place unlike = refl
-answers_none Command (Xid pf) info place unlike = refl
-answers_none Answer (I ns nr p) info place unlike = refl
-answers_none Answer (Rr nr true) info place unlike = refl
-answers_none Answer (Rr nr false) info place unlike = refl
-answers_none Answer (Rnr nr true) info place unlike = refl
-answers_none Answer (Rnr nr false) info place unlike = refl
-answers_none Answer (Rej nr true) info place unlike = refl
-answers_none Answer (Rej nr false) info place unlike = refl
-answers_none Answer (Sabme p) info place unlike = refl
 answers_none Answer (Dm f) info place unlike = cc
-answers_none Answer (Ui p) info place unlike = refl
-answers_none Answer (Disc p) info place unlike = refl
 answers_none Answer (Ua f) info place unlike = cc
-answers_none Answer (Frmr f) info place unlike = refl
-answers_none Answer (Xid pf) info place unlike = refl
+answers_none Command (Rr nr true) info place unlike = refl
+answers_none Command (Rnr nr true) info place unlike = refl
+answers_none Command (Sabme true) info place unlike = refl
+answers_none Command (Disc true) info place unlike = refl
+answers_none Answer (Rr nr true) info place unlike = refl
+answers_none Answer (Rnr nr true) info place unlike = refl
+answers_none Answer (Rej nr true) info place unlike = refl
+answers_none role control info place unlike = refl
 
 -- ---- All frames.
 

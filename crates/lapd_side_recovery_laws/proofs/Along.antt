@@ -2,7 +2,7 @@
 -- one before in time.
 use Rattle.std.proofs.Common.{◌≡◌, ◌⊎◌, inl, inr, ℕ, ◌+◌, ◌≤◌, ◌<◌, List, [], ◌∷◌, ◌++◌, Option, true, false, Ok, refl, sym, ap, subst, ◌∙◌, arith}
 use Rattle.std.specs.Prelude.{is_ok}
-use Rattle.std.proofs.lemmas.List.Elements.{All-nil, All-append, All-cons, All-weaker}
+use Rattle.std.proofs.lemmas.List.Elements.{All-nil, All-append, All-cons}
 use Rattle.rand_pcg.specs.Lcg.{Lcg}
 use Rattle.lapd_frame.specs.declared.Side.{Side}
 use Rattle.lapd_frame.specs.declared.Side.TheVariants as side
@@ -38,7 +38,7 @@ use Rattle.lapd_two_side_laws.proofs.Whole.{IsOfRun, runs_are_closed}
 use Rattle.lapd_bus_laws.proofs.Lists.{none_first}
 use Rattle.lapd_clock_laws.specs.Clock.{Clock, Sent, clock_after, moment_of, sent_at, still_in_transit}
 use Rattle.lapd_clock_laws.specs.InTime.{AreSent, IsInTime, IsLongEnough, OfMove, OverhearsOthers}
-use Rattle.lapd_clock_laws.proofs.EveryRun.{move_keeps, move_timely}
+use Rattle.lapd_clock_laws.proofs.EveryRun.{move_keeps, move_timely, sent_by_then, sent_just_now}
 use Rattle.lapd_clock_laws.proofs.SideClocks.{all_still}
 use Rattle.lapd_side_recovery_laws.specs.Counts.{are_in_step, is_t203_of, t203s_out_of_step}
 use Rattle.lapd_side_recovery_laws.specs.Quiet.{AreQuiet, HaveLink, IsQuiet, IsServed}
@@ -51,22 +51,6 @@ use Rattle.lapd_side_recovery_laws.proofs.Proceeding.{proceeds}
 use Rattle.lapd_side_recovery_laws.proofs.Waiting.{Stands, next_in_time, waits}
 
 -- ---- Octets in transit, and when they were sent.
-
-sent_by_then : (from : Side) (id : LinkId) (now next : ℕ) (line : List Sent) → now ≤ next
-    → AreSent from id (λ at. at ≤ now) line → AreSent from id (λ at. at ≤ next) line
-sent_by_then from id now next line later past = All-weaker
-    (λ (sent : Sent). is_for from id sent.octets ≡ true → sent.at ≤ now)
-    (λ (sent : Sent). is_for from id sent.octets ≡ true → sent.at ≤ next)
-    (λ sent before its. (let by_now = before its in omega (arith, by_now, later))) line past
-
-sent_just_now : (from : Side) (id : LinkId) (now : ℕ) (frames : List (List ℕ))
-    → AreSent from id (λ at. at ≤ now) (sent_at now frames)
-sent_just_now from id now [] =
-    All-nil (λ (sent : Sent). is_for from id sent.octets ≡ true → sent.at ≤ now)
-sent_just_now from id now (octets ∷ frames) =
-    All-cons (λ (sent : Sent). is_for from id sent.octets ≡ true → sent.at ≤ now)
-    (record { octets = octets; at = now }) (sent_at now frames) (λ its. omega arith)
-    (sent_just_now from id now frames)
 
 -- frames of other links
 others_sent : (from : Side) (id : LinkId) (latest now : ℕ) (frames : List (List ℕ))

@@ -16,7 +16,7 @@ use Rattle.lapd_side_events.specs.Interface.{Configs, Interface, Move, by_networ
 use Rattle.lapd_side_events.specs.SideView.{SideEvent, Take, Lose, Expire, Ask, Overhear, reaction}
 use Rattle.lapd_two_side_laws.specs.ExactTimers.{OverhearOctets, OverhearsOctets}
 use Rattle.lapd_two_side_laws.specs.Premises.{IsMoveLeavingTeiTaken, LeaveTeiTaken, is_assignment}
-use Rattle.lapd_bus_laws.proofs.Lists.{both_so}
+use Rattle.lapd_link_definition.proofs.Sending.{both_true}
 use Rattle.lapd_clock_laws.specs.Clock.{Clock, clock_after, moment_of, user_clock}
 use Rattle.lapd_clock_laws.specs.InTime.{OverhearOthers, OverhearsOthers}
 use Rattle.lapd_clock_laws.proofs.Tests.{prompt, prompt_so}
@@ -38,7 +38,7 @@ pub throughout_so : (c : Configs) (P : OfEvent) (test : Test)
     → Throughout c P moves i k
 throughout_so c P test sound [] i k h = tt
 throughout_so c P test sound (move ∷ moves) i k h =
-    let two = both_so (test move.side move.event i k)
+    let two = both_true (test move.side move.event i k)
     (passes c test moves (happens c move i) (clock_after c move.side move.event i k)) h in (
       sound move.side move.event i k two.0,
       throughout_so c P test sound moves (happens c move i)
@@ -72,9 +72,9 @@ link_punctual : (late now : ℕ) (l : Linked) (timer : Timer) (deadline : ℕ)
     → is_punctual late now (Some l) ≡ true → deadline_of timer l.timers ≡ Some deadline
     → now ≤ deadline + late
 link_punctual late now l timer deadline h is =
-    let one = both_so (is_by late now l.timers.t200) _ h in
-    let two = both_so (is_by late now l.timers.t201) _ one.1 in
-    let three = both_so (is_by late now l.timers.t202) (is_by late now l.timers.t203) two.1 in
+    let one = both_true (is_by late now l.timers.t200) _ h in
+    let two = both_true (is_by late now l.timers.t201) _ one.1 in
+    let three = both_true (is_by late now l.timers.t202) (is_by late now l.timers.t203) two.1 in
     by timer one.0 two.0 three.0 three.1 is
   where
     by : (timer : Timer) → is_by late now l.timers.t200 ≡ true
@@ -99,7 +99,7 @@ are_punctual late id now i = is_punctual late now (i.user.served.links id)
 pub are_punctual_so : (late : ℕ) (id : LinkId) (now : ℕ) (i : Interface)
     → are_punctual late id now i ≡ true → ArePunctual late id now i
 are_punctual_so late id now i h =
-    let two = both_so (is_punctual late now (i.user.served.links id))
+    let two = both_true (is_punctual late now (i.user.served.links id))
     (is_punctual late now (i.network.served.links id)) h in
     record {
       user = side_punctual late now id i.user.served two.0;
@@ -143,7 +143,7 @@ have_link id i = is_some (i.user.served.links id) && is_some (i.network.served.l
 
 have_link_so : (id : LinkId) (i : Interface) → have_link id i ≡ true → HaveLink id i
 have_link_so id i h =
-    let two = both_so (is_some (i.user.served.links id)) (is_some (i.network.served.links id)) h in
+    let two = both_true (is_some (i.user.served.links id)) (is_some (i.network.served.links id)) h in
     record { user = two.0; network = two.1 }
 
 -- the link stays, and its timers are expired in time
@@ -155,7 +155,7 @@ pub stays_so : (c : Configs) (late : ℕ) (id : LinkId) (side : Side) (event : S
     (i : Interface) (k : Clock) → stays c late id side event i k ≡ true
     → HaveLink id (side_does c side event i) × ArePunctual late id (moment_of event k.now) i
 stays_so c late id side event i k h =
-    let two = both_so (have_link id (side_does c side event i))
+    let two = both_true (have_link id (side_does c side event i))
     (are_punctual late id (moment_of event k.now) i) h in (
       have_link_so id (side_does c side event i) two.0,
       are_punctual_so late id (moment_of event k.now) i two.1,
@@ -168,7 +168,7 @@ pub is_quiet_so : (c : Configs) (late : ℕ) (id : LinkId) (side : Side) (event 
     (i : Interface) (k : Clock) → is_quiet c late id side event i k ≡ true
     → IsQuiet late c id side event i k
 is_quiet_so c late id side event i k h =
-    let two = both_so (is_plain event) (stays c late id side event i k) h in
+    let two = both_true (is_plain event) (stays c late id side event i k) h in
     let both = stays_so c late id side event i k two.1 in
     record {
       leaves = plain_leaves c id side event i two.0;
@@ -186,7 +186,7 @@ is_served longest late now id i k =
 pub is_served_so : (longest late now : ℕ) (id : LinkId) (i : Interface) (k : Clock)
     → is_served longest late now id i k ≡ true → IsServed longest late now id i k
 is_served_so longest late now id i k h =
-    let two = both_so (prompt longest id side.User (Take now) i.user.served (user_clock k))
+    let two = both_true (prompt longest id side.User (Take now) i.user.served (user_clock k))
     (are_punctual late id now i) h in
     let soon = prompt_so longest id side.User (Take now) i.user.served (user_clock k) two.0 in
     record {
@@ -221,7 +221,7 @@ are_free id i = is_free (i.user.served.links id) && is_free (i.network.served.li
 
 pub are_free_so : (id : LinkId) (i : Interface) → are_free id i ≡ true → HaveFreeLinks id i
 are_free_so id i h =
-    let two = both_so (is_free (i.user.served.links id)) (is_free (i.network.served.links id)) h in
+    let two = both_true (is_free (i.user.served.links id)) (is_free (i.network.served.links id)) h in
     record {
       user = free_so id i.user.served.links (i.user.served.links id) refl two.0;
       network = free_so id i.network.served.links (i.network.served.links id) refl two.1;
@@ -271,10 +271,10 @@ pub usual_so : (c : Configs) (id : LinkId) (moves : List Move) (i : Interface) (
     → passes c (is_usual c id) moves i k ≡ true → AreUsual c id moves i
 usual_so c id [] i k h = record { taken = tt; others = tt; octets = tt }
 usual_so c id (move ∷ moves) i k h =
-    let two = both_so (is_usual c id move.side move.event i k)
+    let two = both_true (is_usual c id move.side move.event i k)
     (passes c (is_usual c id) moves (happens c move i)
     (clock_after c move.side move.event i k)) h in
-    let one = both_so (overhears_nothing move.event)
+    let one = both_true (overhears_nothing move.event)
     (not (list_any (is_assignment id.tei) (given_by c move.side move.event i))) two.0 in
     let heard = others_so id move.side move.event one.0 in
     let rest = usual_so c id moves (happens c move i) (clock_after c move.side move.event i k)

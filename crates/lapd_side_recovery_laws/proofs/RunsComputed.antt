@@ -1,5 +1,5 @@
 -- The worked runs, computed.
-use Rattle.std.proofs.Common.{◌≡◌, inl, inr, ℕ, ◌+◌, ◌<◌, ◌&&◌, List, [], ◌∷◌, true, Option, Some, refl, sym, ap, ◌∙◌, arith}
+use Rattle.std.proofs.Common.{◌≡◌, inl, inr, Bool, ℕ, ◌+◌, ◌<◌, ◌&&◌, List, [], ◌∷◌, true, Option, Some, refl, sym, ap, ◌∙◌, arith}
 use Rattle.std.specs.Prelude.{◌||◌}
 use Rattle.lapd_frame.specs.declared.Side.{Side}
 use Rattle.lapd_link_definition.specs.declared.state.State.{State}
@@ -20,12 +20,13 @@ use Rattle.lapd_clock_laws.proofs.Tests.{in_time, in_time_so}
 use Rattle.lapd_side_events.specs.SideView.{Take}
 use Rattle.lapd_frame.specs.declared.Side.TheVariants as side
 use Rattle.lapd_side_recovery_laws.specs.Agreement.{AreInAgreement}
+use Rattle.lapd_side_recovery_laws.specs.Quiet.{OfEvent}
 use Rattle.lapd_side_recovery_laws.specs.Counts.{most_time_from, t203s_out_of_step}
 use Rattle.lapd_side_recovery_laws.specs.Reached.{AreWithin, HaveReached, HaveFreeLinks, MeetPremises, RunAtMost, clock_of}
-use Rattle.lapd_side_recovery_laws.specs.Runs.{AllButLosses, AllButRequests, AllButTimers, Meet, Quiet, Served, answer_lost, asks_release, is_loss, is_request, lost, lost_clock, new_quick, polled_twice, quick_configs, quick_waits, sabme_lost}
+use Rattle.lapd_side_recovery_laws.specs.Runs.{AllBut, AllButLosses, AllButRequests, AllButTimers, Meet, Quiet, Served, answer_lost, asks_release, is_loss, is_request, lost, lost_clock, new_quick, polled_twice, quick_configs, quick_waits, sabme_lost}
 use Rattle.lapd_side_recovery_laws.proofs.QuietTests.{AreUsual, Test, are_free, are_free_so, is_plain, is_quiet, is_quiet_so, is_served, is_served_so, is_usual, passes, plain_unless, stays, stays_so, throughout_so, usual_so}
 use Rattle.lapd_side_recovery_laws.proofs.Recovers.{recovers}
-use Rattle.lapd_bus_laws.proofs.Lists.{both_so}
+use Rattle.lapd_link_definition.proofs.Sending.{both_true}
 
 -- what a run computes with
 unfoldable pub whole_table : Unit {0}
@@ -108,41 +109,39 @@ Enough moves = lost_clock.now + most_time_from quick_waits 1
 enough_so : (n : ℕ) → n ≡ 12232 → n < 12233
 enough_so n is = omega (arith, is)
 
+-- all of them
+record Passes (test : Test) (moves : List Move) : Type 0 where
+  pub in_time : InTime moves
+  pub usual : Usual moves
+  pub each : Each test moves
+  pub at_last : AtLast moves
+  pub enough : Enough moves
+
+meets : (Q : OfEvent) (test : Test)
+    → ((side : Side) (event : SideEvent) (i : Interface) (k : Clock) → test side event i k ≡ true
+    → Q side event i k) → (moves : List Move) → Passes test moves → Meet Q Served moves 12233
+meets Q test sound moves h = record {
+  premises = meet_premises moves h.in_time h.usual;
+  each = throughout_so quick_configs Q test sound moves lost lost_clock h.each;
+  last = is_served_so 1 0 12233 call (run quick_configs moves lost)
+      (clock_of quick_configs moves lost lost_clock) h.at_last;
+  enough = enough_so _ h.enough;
+}
+
 -- ---- Each poll is answered.
 
-polled_in_time : InTime polled_twice
+polled_pass : Passes (is_quiet quick_configs 0 call) polled_twice
 unfolding whole_table
-polled_in_time = refl
-
-polled_usual : Usual polled_twice
-unfolding whole_table
-polled_usual = refl
-
-polled_each : Each (is_quiet quick_configs 0 call) polled_twice
-unfolding whole_table
-polled_each = refl
-
-polled_last : AtLast polled_twice
-unfolding whole_table
-polled_last = refl
-
-polled_enough : Enough polled_twice
-unfolding whole_table
-polled_enough = refl
+polled_pass =
+    record { in_time = refl; usual = refl; each = refl; at_last = refl; enough = refl }
 
 pub time_computed : most_time_from quick_waits 1 0 call lost ≡ 12232
 unfolding whole_table
 time_computed = refl
 
 pub polled_meet : Meet Quiet Served polled_twice 12233
-polled_meet = record {
-  premises = meet_premises polled_twice polled_in_time polled_usual;
-  each = throughout_so quick_configs Quiet (is_quiet quick_configs 0 call)
-      (is_quiet_so quick_configs 0 call) polled_twice lost lost_clock polled_each;
-  last = is_served_so 1 0 12233 call (run quick_configs polled_twice lost)
-      (clock_of quick_configs polled_twice lost lost_clock) polled_last;
-  enough = enough_so _ polled_enough;
-}
+polled_meet = meets Quiet (is_quiet quick_configs 0 call) (is_quiet_so quick_configs 0 call)
+    polled_twice polled_pass
 
 -- ---- Ends that do not agree.
 
@@ -203,38 +202,24 @@ start_apart = apart call lost AwaitingEstablishment TeiAssigned start_user start
 
 -- ---- Frames are lost.
 
-abbrev but_losses : Test
-but_losses side event i k = (is_plain event || is_loss event)
+-- plain events, and those that this test excepts
+abbrev but : (SideEvent → Bool) → Test
+but excepted side event i k = (is_plain event || excepted event)
     && stays quick_configs 0 call side event i k
 
-but_losses_so : (side : Side) (event : SideEvent) (i : Interface) (k : Clock)
-    → but_losses side event i k ≡ true → AllButLosses side event i k
-but_losses_so side event i k h =
-    let two = both_so (is_plain event || is_loss event) (stays quick_configs 0 call side event i k)
-    h in (
-      plain_unless quick_configs call side event i (is_loss event) two.0,
+but_so : (excepted : SideEvent → Bool) (side : Side) (event : SideEvent) (i : Interface)
+    (k : Clock) → but excepted side event i k ≡ true → AllBut excepted side event i k
+but_so excepted side event i k h =
+    let two = both_true (is_plain event || excepted event)
+    (stays quick_configs 0 call side event i k) h in (
+      plain_unless quick_configs call side event i (excepted event) two.0,
       stays_so quick_configs 0 call side event i k two.1,
     )
 
-losses_in_time : InTime answer_lost
+losses_pass : Passes (but is_loss) answer_lost
 unfolding whole_table
-losses_in_time = refl
-
-losses_usual : Usual answer_lost
-unfolding whole_table
-losses_usual = refl
-
-losses_each : Each but_losses answer_lost
-unfolding whole_table
-losses_each = refl
-
-losses_last : AtLast answer_lost
-unfolding whole_table
-losses_last = refl
-
-losses_enough : Enough answer_lost
-unfolding whole_table
-losses_enough = refl
+losses_pass =
+    record { in_time = refl; usual = refl; each = refl; at_last = refl; enough = refl }
 
 losses_user : state_of ((run quick_configs answer_lost lost).user.served.links call)
     ≡ Some TeiAssigned
@@ -247,14 +232,7 @@ unfolding whole_table
 losses_network = refl
 
 pub losses_meet : Meet AllButLosses Served answer_lost 12233
-losses_meet = record {
-  premises = meet_premises answer_lost losses_in_time losses_usual;
-  each = throughout_so quick_configs AllButLosses but_losses but_losses_so answer_lost lost
-      lost_clock losses_each;
-  last = is_served_so 1 0 12233 call (run quick_configs answer_lost lost)
-      (clock_of quick_configs answer_lost lost lost_clock) losses_last;
-  enough = enough_so _ losses_enough;
-}
+losses_meet = meets AllButLosses (but is_loss) (but_so is_loss) answer_lost losses_pass
 
 pub losses_apart : AreInAgreement call (run quick_configs answer_lost lost) → ⊥
 losses_apart = apart call (run quick_configs answer_lost lost) TeiAssigned
@@ -262,38 +240,10 @@ losses_apart = apart call (run quick_configs answer_lost lost) TeiAssigned
 
 -- ---- Layer 3 requests the release.
 
-abbrev but_requests : Test
-but_requests side event i k = (is_plain event || is_request event)
-    && stays quick_configs 0 call side event i k
-
-but_requests_so : (side : Side) (event : SideEvent) (i : Interface) (k : Clock)
-    → but_requests side event i k ≡ true → AllButRequests side event i k
-but_requests_so side event i k h =
-    let two = both_so (is_plain event || is_request event)
-    (stays quick_configs 0 call side event i k) h in (
-      plain_unless quick_configs call side event i (is_request event) two.0,
-      stays_so quick_configs 0 call side event i k two.1,
-    )
-
-release_in_time : InTime asks_release
+release_pass : Passes (but is_request) asks_release
 unfolding whole_table
-release_in_time = refl
-
-release_usual : Usual asks_release
-unfolding whole_table
-release_usual = refl
-
-release_each : Each but_requests asks_release
-unfolding whole_table
-release_each = refl
-
-release_last : AtLast asks_release
-unfolding whole_table
-release_last = refl
-
-release_enough : Enough asks_release
-unfolding whole_table
-release_enough = refl
+release_pass =
+    record { in_time = refl; usual = refl; each = refl; at_last = refl; enough = refl }
 
 release_user : state_of ((run quick_configs asks_release lost).user.served.links call)
     ≡ Some AwaitingRelease
@@ -306,14 +256,7 @@ unfolding whole_table
 release_network = refl
 
 pub release_meets : Meet AllButRequests Served asks_release 12233
-release_meets = record {
-  premises = meet_premises asks_release release_in_time release_usual;
-  each = throughout_so quick_configs AllButRequests but_requests but_requests_so asks_release lost
-      lost_clock release_each;
-  last = is_served_so 1 0 12233 call (run quick_configs asks_release lost)
-      (clock_of quick_configs asks_release lost lost_clock) release_last;
-  enough = enough_so _ release_enough;
-}
+release_meets = meets AllButRequests (but is_request) (but_so is_request) asks_release release_pass
 
 pub release_apart : AreInAgreement call (run quick_configs asks_release lost) → ⊥
 release_apart = apart call (run quick_configs asks_release lost) AwaitingRelease

@@ -80,19 +80,20 @@ abbrev pub is_request : SideEvent → Bool
 is_request (Ask request now) = true
 is_request event = false
 
--- as `IsQuiet`, but octets of the link may be lost
-abbrev pub AllButLosses : OfEvent
-AllButLosses side event i k =
-    (is_loss event ≡ false → LeavesLinkThere quick_configs call side event i)
+-- as `IsQuiet`, but events of this kind may do anything to the link
+abbrev pub AllBut : (SideEvent → Bool) → OfEvent
+AllBut excepted side event i k =
+    (excepted event ≡ false → LeavesLinkThere quick_configs call side event i)
     × (HaveLink call (side_does quick_configs side event i)
     × ArePunctual 0 call (moment_of event k.now) i)
 
--- as `IsQuiet`, but layer 3 may request anything
+-- octets of the link may be lost
+abbrev pub AllButLosses : OfEvent
+AllButLosses side event i k = AllBut is_loss side event i k
+
+-- layer 3 may request anything
 abbrev pub AllButRequests : OfEvent
-AllButRequests side event i k =
-    (is_request event ≡ false → LeavesLinkThere quick_configs call side event i)
-    × (HaveLink call (side_does quick_configs side event i)
-    × ArePunctual 0 call (moment_of event k.now) i)
+AllButRequests side event i k = AllBut is_request side event i k
 
 abbrev pub Quiet : OfEvent
 Quiet side event i k = IsQuiet 0 quick_configs call side event i k

@@ -18,7 +18,7 @@ use Rattle.lapd_two_side_laws.specs.Premises.{is_removal, IsMoveGivingTeiOnce, I
 use Rattle.lapd_side_events.specs.SideView.{SideEvent, does}
 use Rattle.lapd_two_side_laws.specs.Projects.{IsSafeAt}
 use Rattle.lapd_two_side_laws.proofs.OwnSides.{AreHeld, network_preserves, AreOwn, user_preserves}
-use Rattle.lapd_two_side_laws.proofs.OwnTeis.{both_of}
+use Rattle.lapd_link_definition.proofs.Sending.{both_true}
 use Rattle.lapd_two_side_laws.proofs.Timed.{new_is_timed}
 use Rattle.lapd_two_side_laws.proofs.Whole.{IsNew, link_safe_as}
 
@@ -35,15 +35,15 @@ unfolding with_tei
 new_are_own config None random = λ k there. (let no : false ≡ true = there in cc)
 new_are_own config (Some tei) random = λ k there.
     (let tested =
-    (both_of (is_served config k.sapi) (k.tei == tei)
+    (both_true (is_served config k.sapi) (k.tei == tei)
     (there_so (is_link_of config tei k) (fresh_link config k) there)).1 in
     grind (arith, nat_tests, tested))
 
 pub new_are_held : (config : Config) (known : List ℕ) → AreHeld (new_network config known)
 unfolding links_below
 new_are_held config known = λ k there.
-    (both_of (nat_lt k.tei 127) (is_held (known_held known).held k.tei)
-    (both_of (is_served config k.sapi) (is_held_below (known_held known).held 127 k.tei)
+    (both_true (nat_lt k.tei 127) (is_held (known_held known).held k.tei)
+    (both_true (is_served config k.sapi) (is_held_below (known_held known).held 127 k.tei)
     (there_so (is_served config k.sapi && is_held_below (known_held known).held 127 k.tei)
     (fresh_link config k) there)).1).1
 

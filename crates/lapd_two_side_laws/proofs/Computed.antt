@@ -1,5 +1,5 @@
 -- The worked runs, computed. The last three runs end in a state that is not right.
-use Rattle.std.proofs.Common.{◌≡◌, inl, inr, ℕ, zero, suc, ◌+◌, ◌∙◌, ◌≤◌, List, [], ◌∷◌, length, map, slice_get, Option, Some, None, refl, sym, ap, subst, arith, true, false}
+use Rattle.std.proofs.Common.{◌≡◌, inl, inr, ℕ, zero, suc, ◌+◌, ◌∙◌, ◌≤◌, List, [], ◌∷◌, length, map, slice_get, Option, Some, None, refl, sym, ap, subst, arith}
 use Rattle.std.specs.Prelude.{Vec}
 use Rattle.std.specs.declared.alloc.Global.{Global}
 use Rattle.lapd_pair_laws.specs.Safe.{IsAmong}
@@ -12,6 +12,7 @@ use Rattle.lapd_two_side_laws.specs.Projects.{IsReceivedByNetwork, IsReceivedByU
 use Rattle.lapd_two_side_laws.specs.Schedule.{configs, call, packet, at_first, unassigned, IsMessage, both_links, assigned, removed, hasty, skipping, regained, skipping_regained, with_old_frames, answered_before}
 use Rattle.lapd_two_side_laws.specs.Primitives.{link_primitives, given_to, known_of, IsReceived}
 use Rattle.lapd_two_side_laws.proofs.ComputedEvents.{computed_events}
+use Rattle.lapd_two_side_laws.proofs.MoveTests.{are_timely, give_once}
 
 -- ---- A message of given octets.
 
@@ -28,6 +29,12 @@ with_octets P octets each v is = subst (λ (xs : List ℕ). (fits : Fits v xs) �
 pub with_both : (P : Vec ℕ Global → Vec ℕ Global → Type 0) (a b : List ℕ) → ((v w : Vec ℕ Global) (x : Fits v a) (y : Fits w b) → P (holding v a x) (holding w b y)) → (v w : Vec ℕ Global) → v.items ≡ a → w.items ≡ b → P v w
 with_both P a b each v w is_a is_b = with_octets (λ u. P u w) a (λ u x. with_octets (λ t. P (holding u a x) t) b (λ t y. each u t x y) w is_b) v is_a
 
+pub with_four : (P : Vec ℕ Global → Vec ℕ Global → Vec ℕ Global → Vec ℕ Global → Type 0) (a b c d : List ℕ)
+    → ((s t u v : Vec ℕ Global) (w : Fits s a) (x : Fits t b) (y : Fits u c) (z : Fits v d) → P (holding s a w) (holding t b x) (holding u c y) (holding v d z))
+    → (s t u v : Vec ℕ Global) → s.items ≡ a → t.items ≡ b → u.items ≡ c → v.items ≡ d → P s t u v
+with_four P a b c d each s t u v is_a is_b is_c is_d =
+    with_both (λ m n. P m n u v) a b (λ m n w x. with_both (λ k l. P (holding m a w) (holding n b x) k l) c d (λ k l y z. each m n k l w x y z) u v is_c is_d) s t is_a is_b
+
 -- ---- Both links.
 
 pub record BothLinks (message answer : Vec ℕ Global) : Type 0 where
@@ -42,16 +49,18 @@ pub record BothLinks (message answer : Vec ℕ Global) : Type 0 where
 
 both_links_hold : (v w : Vec ℕ Global) (x : Fits v (1 ∷ [])) (y : Fits w (2 ∷ [])) → BothLinks (holding v (1 ∷ []) x) (holding w (2 ∷ []) y)
 unfolding computed_events
-both_links_hold v w x y = record {
-  call_premises = ((tt, (tt, (tt, (tt, (tt, (λ t o. (refl, refl), (tt, (tt, (tt, (tt, (tt, (tt, (tt, (λ t o. (refl, refl), (tt, (tt, (tt, (tt, tt)))))))))))))))))), (λ there. refl, (λ there. refl, (λ there. refl, (λ there. refl, (λ there. refl, (λ there. refl, (λ there. refl, (λ there. refl, (λ there. refl, (λ there. refl, (λ there. refl, (λ there. refl, (λ there. refl, (λ there. refl, (λ there. refl, (λ there. refl, (λ there. refl, (λ there. refl, tt)))))))))))))))))));
-  packet_premises = ((tt, (tt, (tt, (tt, (tt, (λ t o. (refl, refl), (tt, (tt, (tt, (tt, (tt, (tt, (tt, (λ t o. (refl, refl), (tt, (tt, (tt, (tt, tt)))))))))))))))))), (λ there. refl, (λ there. refl, (λ there. refl, (λ there. refl, (λ there. refl, (λ there. refl, (λ there. refl, (λ there. refl, (λ there. refl, (λ there. refl, (λ there. refl, (λ there. refl, (λ there. refl, (λ there. refl, (λ there. refl, (λ there. refl, (λ there. refl, (λ there. refl, tt)))))))))))))))))));
-  call_to_user = refl;
-  call_to_network = refl;
-  packet_to_user = refl;
-  packet_to_network = refl;
-  call_received_in = refl;
-  call_sent_in = refl;
-}
+both_links_hold v w x y =
+    let run = both_links (holding v (1 ∷ []) x) (holding w (2 ∷ []) y) in
+    record {
+      call_premises = (are_timely configs call run at_first refl, give_once configs call run at_first refl);
+      packet_premises = (are_timely configs packet run at_first refl, give_once configs packet run at_first refl);
+      call_to_user = refl;
+      call_to_network = refl;
+      packet_to_user = refl;
+      packet_to_network = refl;
+      call_received_in = refl;
+      call_sent_in = refl;
+    }
 
 pub both_links_so : (message answer : Vec ℕ Global) → IsMessage 1 message → IsMessage 2 answer → BothLinks message answer
 both_links_so = with_both BothLinks (1 ∷ []) (2 ∷ []) both_links_hold
@@ -65,40 +74,13 @@ pub record Assigned (message : Vec ℕ Global) : Type 0 where
 
 assigned_holds : (v : Vec ℕ Global) (x : Fits v (1 ∷ [])) → Assigned (holding v (1 ∷ []) x)
 unfolding computed_events
-assigned_holds v x = record {
-  premises = (
-    (tt, (tt, (tt, (tt, (tt, (tt, (tt, (tt, tt)))))))),
-    (
-      λ there. refl,
-      (
-        λ there. (let
-            impossible : false ≡ true = there in cc),
-        (
-          λ there. (let impossible : false ≡ true = there in
-              cc),
-          (
-            λ there. refl,
-            (
-              λ there. refl,
-              (
-                λ there. refl,
-                (
-                  λ there. refl,
-                  (
-                    λ there. refl,
-                    tt,
-                  ),
-                ),
-              ),
-            ),
-          ),
-        ),
-      ),
-    ),
-  );
-  to_user = refl;
-  to_network = refl;
-}
+assigned_holds v x =
+    let run = assigned (holding v (1 ∷ []) x) in
+    record {
+      premises = (are_timely configs call run unassigned refl, give_once configs call run unassigned refl);
+      to_user = refl;
+      to_network = refl;
+    }
 
 pub assigned_so : (message : Vec ℕ Global) → IsMessage 1 message → Assigned message
 assigned_so = with_octets Assigned (1 ∷ []) assigned_holds
@@ -111,10 +93,12 @@ pub record Removed (first : Vec ℕ Global) : Type 0 where
 
 removed_holds : (v : Vec ℕ Global) (x : Fits v (1 ∷ [])) → Removed (holding v (1 ∷ []) x)
 unfolding computed_events
-removed_holds v x = record {
-  premises = ((tt, (tt, (tt, (tt, (tt, (tt, (tt, (λ t o. (refl, refl), (tt, (tt, (tt, (λ t o. (refl, refl), (tt, (tt, tt)))))))))))))), (λ there. refl, (λ there. refl, (λ there. refl, (λ there. refl, (λ there. refl, (λ there. refl, (λ there. refl, (λ there. refl, (λ there. refl, (λ there. refl, (λ there. refl, (λ there. refl, (λ there. refl, (λ there. refl, tt)))))))))))))));
-  to_user = refl;
-}
+removed_holds v x =
+    let run = removed (holding v (1 ∷ []) x) in
+    record {
+      premises = (are_timely configs call run at_first refl, give_once configs call run at_first refl);
+      to_user = refl;
+    }
 
 pub removed_so : (first : Vec ℕ Global) → IsMessage 1 first → Removed first
 removed_so = with_octets Removed (1 ∷ []) removed_holds
@@ -149,6 +133,18 @@ same_octet a b same = ap first_octet same
 pub differ : Octet 1 ≡ Octet 2 → ⊥
 differ same = omega (arith, same_octet 1 2 same)
 
+-- the first message alone is received, and the second counts as acknowledged
+pub first_for_second : (given : List (List ℕ)) (acked : List ℕ) (received : List (List ℕ)) → given ≡ two_messages → acked ≡ 1 ∷ [] → received ≡ one_message → IsReceived given acked received → ⊥
+first_for_second given acked received g a r right =
+    let plain : IsReceived two_messages (1 ∷ []) one_message = received_as _ two_messages _ (1 ∷ []) _ one_message (sym g) (sym a) (sym r) right in
+    differ (sym (one_of (λ place. slice_get two_messages place) (Some (1 ∷ [])) plain.places 1 plain.same (plain.acknowledged 1 (inl refl))))
+
+-- the second message alone is received, and the first counts as acknowledged
+pub second_for_first : (given : List (List ℕ)) (acked : List ℕ) (received : List (List ℕ)) → given ≡ two_messages → acked ≡ 0 ∷ [] → received ≡ (2 ∷ []) ∷ [] → IsReceived given acked received → ⊥
+second_for_first given acked received g a r right =
+    let plain : IsReceived two_messages (0 ∷ []) ((2 ∷ []) ∷ []) = received_as _ two_messages _ (0 ∷ []) _ ((2 ∷ []) ∷ []) (sym g) (sym a) (sym r) right in
+    differ (one_of (λ place. slice_get two_messages place) (Some (2 ∷ [])) plain.places 0 plain.same (plain.acknowledged 0 (inl refl)))
+
 -- ---- The premise on T200, of that link.
 
 pub record Hasty (first second : Vec ℕ Global) : Type 0 where
@@ -160,13 +156,15 @@ pub record Hasty (first second : Vec ℕ Global) : Type 0 where
 
 hasty_holds : (v w : Vec ℕ Global) (x : Fits v (1 ∷ [])) (y : Fits w (2 ∷ [])) → Hasty (holding v (1 ∷ []) x) (holding w (2 ∷ []) y)
 unfolding computed_events
-hasty_holds v w x y = record {
-  tei = (λ there. refl, (λ there. refl, (λ there. refl, (λ there. refl, (λ there. refl, (λ there. refl, (λ there. refl, (λ there. refl, (λ there. refl, tt)))))))));
-  packet_premises = ((tt, (tt, (tt, (λ t o. (refl, refl), (tt, (tt, (tt, (tt, (tt, tt))))))))), (λ there. refl, (λ there. refl, (λ there. refl, (λ there. refl, (λ there. refl, (λ there. refl, (λ there. refl, (λ there. refl, (λ there. refl, tt))))))))));
-  given = refl;
-  acked = refl;
-  received = refl;
-}
+hasty_holds v w x y =
+    let run = hasty (holding v (1 ∷ []) x) (holding w (2 ∷ []) y) in
+    record {
+      tei = give_once configs call run at_first refl;
+      packet_premises = (are_timely configs packet run at_first refl, give_once configs packet run at_first refl);
+      given = refl;
+      acked = refl;
+      received = refl;
+    }
 
 pub hasty_so : (first second : Vec ℕ Global) → IsMessage 1 first → IsMessage 2 second → Hasty first second
 hasty_so = with_both Hasty (1 ∷ []) (2 ∷ []) hasty_holds
@@ -174,8 +172,7 @@ hasty_so = with_both Hasty (1 ∷ []) (2 ∷ []) hasty_holds
 pub hasty_is_not_right : (first second : Vec ℕ Global) → IsMessage 1 first → IsMessage 2 second → IsReceivedByUser call (run configs (hasty first second) at_first) → ⊥
 hasty_is_not_right first second one two right =
     let h = hasty_so first second one two in
-    let plain : IsReceived two_messages (1 ∷ []) one_message = received_as _ two_messages _ (1 ∷ []) _ one_message (sym h.given) (sym h.acked) (sym h.received) right in
-    differ (sym (one_of (λ place. slice_get two_messages place) (Some (1 ∷ [])) plain.places 1 plain.same (plain.acknowledged 1 (inl refl))))
+    first_for_second _ _ _ h.given h.acked h.received right
 
 -- ---- The premise on T200 again: a message is skipped.
 
@@ -192,7 +189,7 @@ pub record Skipping (first second third : Vec ℕ Global) : Type 0 where
 skipping_holds : (u v w : Vec ℕ Global) (x : Fits u (1 ∷ [])) (y : Fits v (2 ∷ [])) (z : Fits w (3 ∷ [])) → Skipping (holding u (1 ∷ []) x) (holding v (2 ∷ []) y) (holding w (3 ∷ []) z)
 unfolding computed_events
 skipping_holds u v w x y z = record {
-  tei = (λ there. refl, (λ there. refl, (λ there. refl, (λ there. refl, (λ there. refl, (λ there. refl, (λ there. refl, (λ there. refl, (λ there. refl, (λ there. refl, (λ there. refl, (λ there. refl, (λ there. refl, tt)))))))))))));
+  tei = give_once configs packet (skipping (holding u (1 ∷ []) x) (holding v (2 ∷ []) y) (holding w (3 ∷ []) z)) at_first refl;
   given = refl;
   acked = refl;
   received = refl;
@@ -247,7 +244,7 @@ pub record Regained (first second : Vec ℕ Global) : Type 0 where
 regained_holds : (v w : Vec ℕ Global) (x : Fits v (1 ∷ [])) (y : Fits w (2 ∷ [])) → Regained (holding v (1 ∷ []) x) (holding w (2 ∷ []) y)
 unfolding computed_events
 regained_holds v w x y = record {
-  timely = (tt, (tt, (tt, (tt, (tt, (tt, (tt, (λ t o. (refl, refl), (tt, (tt, (tt, (λ t o. (refl, refl), (tt, (tt, (tt, (tt, (tt, (tt, (tt, (tt, (tt, (tt, (tt, tt)))))))))))))))))))))));
+  timely = are_timely configs call (regained (holding v (1 ∷ []) x) (holding w (2 ∷ []) y)) at_first refl;
   given = refl;
   acked = refl;
   received = refl;
@@ -255,12 +252,6 @@ regained_holds v w x y = record {
 
 pub regained_so : (first second : Vec ℕ Global) → IsMessage 1 first → IsMessage 2 second → Regained first second
 regained_so = with_both Regained (1 ∷ []) (2 ∷ []) regained_holds
-
--- the second message alone is received, and the first counts as acknowledged
-pub second_for_first : (given : List (List ℕ)) (acked : List ℕ) (received : List (List ℕ)) → given ≡ two_messages → acked ≡ 0 ∷ [] → received ≡ (2 ∷ []) ∷ [] → IsReceived given acked received → ⊥
-second_for_first given acked received g a r right =
-    let plain : IsReceived two_messages (0 ∷ []) ((2 ∷ []) ∷ []) = received_as _ two_messages _ (0 ∷ []) _ ((2 ∷ []) ∷ []) (sym g) (sym a) (sym r) right in
-    differ (one_of (λ place. slice_get two_messages place) (Some (2 ∷ [])) plain.places 0 plain.same (plain.acknowledged 0 (inl refl)))
 
 pub regained_is_not_right : (first second : Vec ℕ Global) → IsMessage 1 first → IsMessage 2 second → IsReceivedByNetwork call (run configs (regained first second) at_first) → ⊥
 regained_is_not_right first second one two right =
@@ -279,7 +270,7 @@ pub record SkippingRegained (first second third : Vec ℕ Global) : Type 0 where
 skipping_regained_holds : (u v w : Vec ℕ Global) (x : Fits u (1 ∷ [])) (y : Fits v (2 ∷ [])) (z : Fits w (3 ∷ [])) → SkippingRegained (holding u (1 ∷ []) x) (holding v (2 ∷ []) y) (holding w (3 ∷ []) z)
 unfolding computed_events
 skipping_regained_holds u v w x y z = record {
-  timely = (tt, (tt, (tt, (tt, (tt, (tt, (tt, (tt, (tt, (tt, (λ t o. (refl, refl), (tt, (tt, (tt, (λ t o. (refl, refl), (tt, (tt, (tt, (tt, (tt, (tt, (tt, (tt, (tt, (tt, tt)))))))))))))))))))))))));
+  timely = are_timely configs packet (skipping_regained (holding u (1 ∷ []) x) (holding v (2 ∷ []) y) (holding w (3 ∷ []) z)) at_first refl;
   given = refl;
   acked = refl;
   received = refl;
@@ -312,7 +303,7 @@ pub record AnsweredBefore (message : Vec ℕ Global) : Type 0 where
 answered_before_holds : (v : Vec ℕ Global) (x : Fits v (1 ∷ [])) → AnsweredBefore (holding v (1 ∷ []) x)
 unfolding computed_events
 answered_before_holds v x = record {
-  premises = ((tt, (tt, (tt, (tt, tt)))), (λ there. refl, (λ there. refl, (λ there. refl, (λ there. refl, tt)))));
+  premises = (are_timely configs call (answered_before (holding v (1 ∷ []) x)) with_old_frames refl, give_once configs call (answered_before (holding v (1 ∷ []) x)) with_old_frames refl);
   given = refl;
   acked = refl;
   received = refl;

@@ -14,6 +14,7 @@ pub mod Unskipped
 pub mod Asked
 pub mod OneMove
 pub mod Whole
+pub mod MoveTests
 pub mod Computed
 pub mod ComputedEvents
 pub mod Reactions

@@ -1,9 +1,10 @@
 -- TEI management assigns and obtains no TEI whose links exist, if it holds or has the TEIs of these
 -- links.
-use Rattle.std.proofs.Common.{◌≡◌, ◌⊎◌, inl, inr, ℕ, ◌==◌, ◌&&◌, List, Bool, true, false, if◌then◌else◌, Option, Some, None, refl, sym, ap, subst, ◌∙◌, arith}
+use Rattle.std.proofs.Common.{◌≡◌, ◌⊎◌, inl, inr, ℕ, ◌==◌, List, Bool, true, false, if◌then◌else◌, Option, Some, None, refl, sym, ap, subst, ◌∙◌, arith}
 use Rattle.std.specs.Prelude.{is_some}
 use Rattle.std.specs.List.{list_any, filter_map}
 use Rattle.std.proofs.lemmas.Bool.Decides.{nat_tests}
+use Rattle.lapd_link_definition.proofs.Sending.{both_true}
 use Rattle.lapd_frame.specs.declared.Side.{Side}
 use Rattle.lapd_tei.specs.declared.out.TeiOut.{TeiOut}
 use Rattle.lapd_tei.specs.Out.{tei_given, tei_freed}
@@ -28,11 +29,6 @@ IsQuietFor links effects =
     (k : LinkId) → is_some (links k) ≡ true
     → list_any (is_assignment k.tei) effects.primitives ≡ false
 
-pub both_of : (a b : Bool) → (a && b) ≡ true → (a ≡ true) × (b ≡ true)
-both_of true true h = (refl, refl)
-both_of true false h = cc
-both_of false b h = cc
-
 -- what a step of TEI management does to its TEIs: `P` holds for those before it, `Q` for those
 -- after
 pub record LeavesOwn (P Q : ℕ → Type 0) (outs : List TeiOut) : Type 0 where
@@ -55,7 +51,7 @@ module _ (side : Side) (config : Config) (now : ℕ) (outs : List TeiOut) (s : S
       → Q k.tei
   with_by k t true given is preserved there =
       let same : t ≡ k.tei =
-      (let tested = (both_of (is_served config k.sapi) (k.tei == t) is).1 in
+      (let tested = (both_true (is_served config k.sapi) (k.tei == t) is).1 in
       grind (arith, nat_tests, tested)) in
       subst Q same (own.given t given)
   with_by k t false given is preserved there = stays_own k preserved (are k there)

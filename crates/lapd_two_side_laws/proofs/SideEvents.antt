@@ -103,16 +103,16 @@ module _ (S : Type 0) (w : Behaviour S) (side : Side) (id : LinkId) where
         removed = any_more (is_removal id.tei) delivered more h.removed;
       }))
 
-  projected_pass : (v : SideView S) (view : View) (a : Reaction S) (more : List (LinkId × List ℕ))
-      (line : List (List ℕ)) (frames : List Flight) → Projects w side id v view
+  pub projected_pass : (v : SideView S) (view : View) (a : Reaction S)
+      (more : List (LinkId × List ℕ)) (line : List (List ℕ)) (frames : List Flight)
+      → Projects w side id v view
       → PassesBy side id (w.served v.now).links (w.served a.after).links a.effects
       → given_to id more ≡ []
       → those_for (other_side side) id line ≡ all_spelled (other_side side) id frames
       → Projects w side id (view_after_event v a more line) (record view { incoming = frames })
   projected_pass v view a more line frames p passes none on = record {
-    link =
-        link_stays (w.served v.now).links (w.served a.after).links v.delivered a.effects.primitives
-        view.station.end passes.links p.link;
+    link = link_stays (w.served v.now).links (w.served a.after).links v.delivered
+        a.effects.primitives view.station.end passes.links p.link;
     incoming = on;
     outgoing = still_sent v a _ passes ∙ p.outgoing;
     known = ap (λ ws. learns_all ws nothing_known) (still_delivered v a _ passes) ∙ p.known;
@@ -135,9 +135,9 @@ module _ (S : Type 0) (w : Behaviour S) (side : Side) (id : LinkId) where
     pub sends : AreKeptOrSent ((w.served v.now).links id) view.station.history.sent_in
         (view_after octets place view done).station.history.sent_in
 
-  projected_step : (v : SideView S) (view : View) (a : Reaction S) (more : List (LinkId × List ℕ))
-      (line : List (List ℕ)) (frames : List Flight) (now : ℕ) (input : Input) (octets : List ℕ)
-      (place : ℕ) (change : Timers → Timers)
+  pub projected_step : (v : SideView S) (view : View) (a : Reaction S)
+      (more : List (LinkId × List ℕ)) (line : List (List ℕ)) (frames : List Flight) (now : ℕ)
+      (input : Input) (octets : List ℕ) (place : ℕ) (change : Timers → Timers)
       → Projects w side id v view → IsConsistent Tagged view.station → (links : Links)
       → HasLink links id view.station.end
       → IsStep side id now input octets change links (w.served a.after).links a.effects
@@ -593,8 +593,8 @@ module _ (S : Type 0) (w : Behaviour S) (side : Side) (id : LinkId) where
       same_timer a b e = cc
 
   -- the timer has a deadline at this link
-  runs_by : (timer : Timer) (l : Linked) (o : Option Linked) → o ≡ Some l → runs_on timer o ≡ true
-      → is_some (deadline_of timer l.timers) ≡ true
+  pub runs_by : (timer : Timer) (l : Linked) (o : Option Linked) → o ≡ Some l
+      → runs_on timer o ≡ true → is_some (deadline_of timer l.timers) ≡ true
   runs_by timer l o there runs = sym (ap (runs_on timer) there) ∙ runs
 
   -- the link exists if its timer runs
@@ -607,7 +607,7 @@ module _ (S : Type 0) (w : Behaviour S) (side : Side) (id : LinkId) where
   is_there v timer end (inr (inr late)) runs =
       let impossible : false ≡ true = sym (ap (runs_on timer) late.absent) ∙ runs in cc
 
-  t200_is_event : (view : View) → view.station.end.t200 ≡ true → first_poll view.outgoing ≡ None
+  pub t200_is_event : (view : View) → view.station.end.t200 ≡ true → first_poll view.outgoing ≡ None
       → first_final view.incoming ≡ None
       → acts Tagged side world.Expire200 view ≡ takes Tagged (Expiry T200) [] view
   unfolding acts expires_200
@@ -620,7 +620,7 @@ module _ (S : Type 0) (w : Behaviour S) (side : Side) (id : LinkId) where
       ∙ ap (λ (o : Option ℕ). unless_under_way side None o (takes Tagged (Expiry T200) [] view))
       no_final
 
-  t203_is_event : (view : View) → view.station.end.t203 ≡ true
+  pub t203_is_event : (view : View) → view.station.end.t203 ≡ true
       → acts Tagged side world.Expire203 view ≡ takes Tagged (Expiry T203) [] view
   unfolding acts expires_203
   t203_is_event view on =
