@@ -68,10 +68,12 @@ impl<'s> Player<'s> {
             self.patience(station)
         };
         let due = self.after_mark(limit.saturating_add(slack));
-        match self.next(station, self.after_mark(limit.saturating_add(wait)))? {
+        let until = self.after_mark(limit.saturating_add(wait));
+        match self.next(station, until)? {
             Some(place) if !self.is_idle_poll(place) => {
                 self.compare(expected, place)?;
-                self.timing.arrive(self.record.moment(place), due);
+                let at = self.record.moment(place);
+                self.timing.arrive(at, due);
                 Ok(())
             }
             _ if nothing => Ok(()),
@@ -125,7 +127,8 @@ impl<'s> Player<'s> {
         let wait = due
             .saturating_add(slack)
             .saturating_add(self.patience(station));
-        match self.next(station, self.after_mark(wait))? {
+        let until = self.after_mark(wait);
+        match self.next(station, until)? {
             Some(place) => {
                 self.compare(expected, place)?;
                 let at = self.record.moment(place);
@@ -133,7 +136,8 @@ impl<'s> Player<'s> {
                     return Err(Stop::Missed(Reason::Early));
                 }
                 let latest = due.saturating_add(due / 3).saturating_add(slack);
-                self.timing.arrive(at, self.after_mark(latest));
+                let latest = self.after_mark(latest);
+                self.timing.arrive(at, latest);
                 Ok(())
             }
             None if expected.may_be_nothing() => Ok(()),
@@ -157,7 +161,8 @@ impl<'s> Player<'s> {
             };
             let index = self.compare(expected, place)?;
             expected.remove(index);
-            self.timing.arrive(self.record.moment(place), until);
+            let at = self.record.moment(place);
+            self.timing.arrive(at, until);
         }
         Ok(())
     }
