@@ -79,13 +79,13 @@ fn fits(values: &mut Values, pattern: Pattern, digits: &[u8], frame: &Frame<'_>)
 
 /// Whether it is RR with F=0, or an I frame with P=0, of the link and with this N(R).
 fn acknowledges(values: &Values, number: Number, frame: &Frame<'_>) -> bool {
-    let control = frame.control();
-    let (_, nr) = numbers(control);
-    matches!(
-        control,
-        Control::Rr { pf: false, .. } | Control::I { p: false, .. }
-    ) && is_link(values, frame)
-        && u16::from(nr.value()) == values.number(number) % 128
+    let (_, nr) = numbers(frame.control());
+    let is_kind = match frame.control() {
+        Control::Rr { pf, .. } => !pf,
+        Control::I { p, .. } => !p,
+        _ => false,
+    };
+    is_kind && is_link(values, frame) && u16::from(nr.value()) == values.number(number) % 128
 }
 
 /// Whether the SAPI and the TEI are those of the link.
