@@ -8,7 +8,7 @@ ghost use Rattle.lapd_cli_frames.specs.Time.{front_text};
 
 use crate::any_sapi::has_other_sapi;
 use crate::color::put_colored;
-use crate::drawn::{drawn_frame, put_text};
+use crate::drawn::{drawn_part, put_text};
 use crate::frame_style::{Drawing, FrameStyle, Layout};
 use crate::frame_time::either;
 use crate::missing::{Missing, put_missing};
@@ -16,6 +16,7 @@ use crate::senders::sender_by_kind;
 use crate::shown_text::{write_other, write_unsent};
 use crate::style::Style;
 use crate::tables::put_tables;
+use lapd_cli_ladder::FrameToDraw;
 use lapd_cli_render::Packet;
 use lapd_cli_script::{LineFault, ScriptFault};
 use lapd_follow::{Listener, Remarks};
@@ -314,18 +315,19 @@ impl FramePrinter {
             .how
             .time
             .of(&self.zone, self.first, self.last, packet.moment);
-        let Ok(text) = drawn_frame(
-            self.alloc,
-            drawing,
-            &self.how,
-            self.printed,
+        let Ok(words) = self.how.time.words(self.alloc, time) else {
+            return Err(LineFault::Memory);
+        };
+        let said = said_if(is_followed, said);
+        let frame = FrameToDraw {
             packet,
-            time,
+            time: words.as_bytes(),
             from,
             octets,
-            &said_if(is_followed, said),
-            &self.listener,
-        ) else {
+            said: &said,
+            listener: &self.listener,
+        };
+        let Ok(text) = drawn_part(self.alloc, drawing, &self.how, self.printed, &frame) else {
             return Err(LineFault::Memory);
         };
         self.count(packet.moment);
