@@ -1,4 +1,4 @@
-ghost use Rattle.std.specs.Prelude.{◌≡◌, OnOk};
+ghost use Rattle.std.specs.Prelude.{◌≡◌, ◌++◌, IfOk, OnOk};
 ghost use Rattle.std.specs.String.{string_bytes};
 ghost use Rattle.lapd_cli_frames.specs.Style.{has_names, marked, styled_packet, styled_text};
 
@@ -33,6 +33,23 @@ impl Style {
         }
     }
 
+    /// The line for octets that `from` sent.
+    ///
+    /// # Errors
+    ///
+    /// `AllocError` if an allocation fails.
+    pub(crate) fn text(self, alloc: Global, from: Side, octets: &[u8]) -> Result<String, AllocError>
+        ensures { IfOk result (λ text. string_bytes text ≡ styled_text self from octets.now) }
+    {
+        match self {
+            Style::Plain => lapd_trace::line(alloc, from, octets),
+            Style::Named => named_line(alloc, from, octets),
+            Style::Brief => brief_line(alloc, from, octets),
+            Style::Json => lapd_cli_render::line(alloc, from, octets),
+            Style::NamedJson => lapd_cli_render::named_line(alloc, from, octets),
+        }
+    }
+
     /// Replaces `line` with the text for octets that `from` sent, so that one text serves many
     /// lines.
     ///
@@ -53,23 +70,8 @@ impl Style {
                 line.clear();
                 lapd_trace::push_line(alloc, line, from, octets)
             }
-            Style::Named => {
-                line.clear();
-                lapd_trace::push_line(alloc, line, from, octets)?;
-                lapd_cli_render::push_names(line, from, octets)
-            }
-            Style::Brief => {
-                line.clear();
-                let reading = lapd_frame::read(octets, from);
-                push_brief(alloc, line, Some(from), octets, &reading)?;
-                lapd_cli_render::push_names(line, from, octets)
-            }
-            Style::Json => {
-                *line = lapd_cli_render::line(alloc, from, octets)?;
-                Ok(())
-            }
-            Style::NamedJson => {
-                *line = lapd_cli_render::named_line(alloc, from, octets)?;
+            Style::Named | Style::Brief | Style::Json | Style::NamedJson => {
+                *line = self.text(alloc, from, octets)?;
                 Ok(())
             }
         }
@@ -122,4 +124,25 @@ pub(crate) fn mark_cut(line: &mut String, is_cut: bool) -> Result<(), AllocError
     } else {
         Ok(())
     }
+}
+
+/// The trace line for octets that `from` sent, followed by the name of their message.
+fn named_line(alloc: Global, from: Side, octets: &[u8]) -> Result<String, AllocError>
+    ensures { IfOk result (λ text. string_bytes text ≡ styled_text Style.Named from octets.now) }
+{
+    let mut text = lapd_trace::line(alloc, from, octets)?;
+    lapd_cli_render::push_names(&mut text, from, octets)?;
+    Ok(text)
+}
+
+/// The trace line for octets that `from` sent, without the octets of their information, followed by
+/// the name of their message.
+fn brief_line(alloc: Global, from: Side, octets: &[u8]) -> Result<String, AllocError>
+    ensures { IfOk result (λ text. string_bytes text ≡ styled_text Style.Brief from octets.now) }
+{
+    let mut text = String::new(alloc);
+    let reading = lapd_frame::read(octets, from);
+    push_brief(alloc, &mut text, Some(from), octets, &reading)?;
+    lapd_cli_render::push_names(&mut text, from, octets)?;
+    Ok(text)
 }
