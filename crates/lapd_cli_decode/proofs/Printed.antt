@@ -4,7 +4,7 @@ use Rattle.std.specs.Prelude.{⊤}
 use Rattle.std.proofs.KnownBytes.{Appends-trans, Appends-nil}
 use Rattle.std.specs.Io.KnownBytes.{Appends, Keeps}
 use Rattle.lapd_capture.specs.declared.CaptureItem.{CaptureItem}
-use Rattle.lapd_capture.specs.declared.CaptureItem.TheVariants.{Frame, Other, Unreadable, End}
+use Rattle.lapd_capture.specs.declared.CaptureItem.TheVariants.{Frame, Unreadable}
 use Rattle.lapd_capture.specs.declared.CaptureFault.{CaptureFault}
 use Rattle.lapd_capture.specs.declared.PacketFault.{PacketFault}
 use Rattle.lapd_capture.specs.declared.ReadFault.TheVariants.{Capture as ReadCapture}
@@ -57,11 +57,6 @@ PrintsTo-more how start mid new item a b d p step goes_on preserved printing gre
   (mid, item, p.1, p.2, goes_on, step, preserved, printing, refl),
   Appends-trans a b d p.1 (item_text how new.reading item mid.printing) p.3 grew,
 )
-
--- nothing is printed at the beginning
-pub PrintsTo-none : (how : CaptureStyle) (start : Place) (a : Option (List ℕ))
-    → PrintsTo how start a a start
-PrintsTo-none how start a = (0, [], (refl, refl), Appends-nil a)
 
 -- nothing more is printed
 pub PrintsTo-preserved : (how : CaptureStyle) (start mid : Place) (a b d : Option (List ℕ))
@@ -152,21 +147,6 @@ state_behind_missing how behind span total old mid new is_total is_mid is_new =
 
 -- ---- one item of a reader
 
--- the end
-pub item_ended : {R : Type 0} (remaining : R → Option (List ℕ)) (how : CaptureStyle)
-    (old new : CaptureReader R) (left : List ℕ) (printing : Printing) (a : Option (List ℕ))
-    → MakesStep remaining (next_step (reading_of old left)) (Ok End) new
-    → StepsFrom remaining how (Ok true) (place_of old left printing) new printing a a
-item_ended remaining how old new left printing a m = (m.0, m.1, (m.2, refl, Appends-nil a))
-
--- something without a frame
-pub item_other : {R : Type 0} (remaining : R → Option (List ℕ)) (how : CaptureStyle)
-    (old new : CaptureReader R) (left : List ℕ) (printing : Printing) (a : Option (List ℕ))
-    → MakesStep remaining (next_step (reading_of old left)) (Ok Other) new
-    → StepsFrom remaining how (Ok false) (place_of old left printing) new printing a a
-item_other remaining how old new left printing a m =
-    (m.0, m.1, (Other, m.2, refl, refl, Appends-nil a))
-
 -- a frame
 pub item_frame : {R : Type 0} (remaining : R → Option (List ℕ)) (how : CaptureStyle)
     (old new : CaptureReader R) (left : List ℕ) (before after : Printing) (span : Span)
@@ -177,25 +157,6 @@ pub item_frame : {R : Type 0} (remaining : R → Option (List ℕ)) (how : Captu
     → StepsFrom remaining how (Ok false) (place_of old left before) new after a b
 item_frame remaining how old new left before after span a b m grew next =
     (m.0, m.1, (Frame span, m.2, refl, next m.0, grew m.0))
-
--- a packet that is skipped
-pub item_skipped : {R : Type 0} (remaining : R → Option (List ℕ)) (how : CaptureStyle)
-    (old new : CaptureReader R) (left : List ℕ) (printing : Printing) (fault : PacketFault)
-    (a : Option (List ℕ))
-    → MakesStep remaining (next_step (reading_of old left)) (Ok (Unreadable fault)) new
-    → how.keeps_going ≡ true
-    → StepsFrom remaining how (Ok false) (place_of old left printing) new printing a a
-item_skipped remaining how old new left printing fault a m goes = (
-  m.0,
-  m.1,
-  (
-    Unreadable fault,
-    m.2,
-    ap (λ b. packet_fault b (Unreadable fault)) goes,
-    refl,
-    Appends-nil a,
-  ),
-)
 
 -- a packet at which reading stops
 pub item_stopped : {R : Type 0} (remaining : R → Option (List ℕ)) (how : CaptureStyle)

@@ -2,122 +2,81 @@
 
 ghost use Rattle.std.specs.Prelude.{◌≡◌, ◌++◌, ◌&&◌, flat_map, IfOk, OnOk};
 ghost use Rattle.lapd_cli_frames.specs.Color.{is_violation};
-ghost use Rattle.lapd_cli_frames.specs.Drawn.{drawn_frame, drawn_part, head_before, ladder_of, red_if, red_lines, red_octet};
+ghost use Rattle.lapd_cli_frames.specs.Drawn.{drawn_part, head_before, ladder_of, red_if, red_lines, red_octet};
 ghost use Rattle.lapd_cli_ladder.specs.Ladder.{frame_lines};
 ghost use Rattle.lapd_cli_frames.specs.Remarked.{RemarkedEnds};
 
 use crate::frame_style::{Drawing, FrameStyle};
 use crate::record::push_record;
-use lapd_cli_ladder::{LadderStyle, push_head, push_notes, push_picture_part, push_rung};
+use lapd_cli_ladder::{
+    FrameToDraw, LadderStyle, push_head, push_notes, push_picture_part, push_rung,
+};
 use lapd_cli_page::push_page_part;
-use lapd_cli_render::Packet;
 use lapd_cli_script::LineFault;
-use lapd_follow::{Listener, Remarks};
-use lapd_frame::Side;
+use lapd_follow::Remarks;
 use std::alloc::{AllocError, Global};
 use std::io::Write;
 
-/// The part of a drawing for octets, of this sender if it is known, after so many printed frames.
+/// The part of a drawing for a frame, after this number of printed frames.
 ///
 /// # Errors
 ///
 /// `AllocError` if an allocation fails.
-pub(crate) fn drawn_frame(
+pub(crate) fn drawn_part(
     alloc: Global,
     drawing: Drawing,
     how: &FrameStyle,
     printed: u64,
-    packet: Packet,
-    time: Option<u64>,
-    from: Option<Side>,
-    octets: &[u8],
-    said: &Option<Remarks>,
-    listener: &Option<Listener>,
+    frame: &FrameToDraw<'_>,
 ) -> Result<Vec<u8>, AllocError>
-    ensures { IfOk result (λ text. text.items ≡ drawn_frame drawing how.now printed packet time
-        from octets.now said.now listener.now) }
+    ensures { IfOk result (λ text. text.items ≡ drawn_part drawing how.now printed
+        frame.now.packet frame.now.time.now frame.now.from frame.now.octets.now frame.now.said.now
+        frame.now.listener.now) }
 {
-    let time = how.time.words(alloc, time)?;
     let mut text = Vec::new(alloc);
-    push_part(
-        alloc,
-        &mut text,
-        drawing,
-        how,
-        printed,
-        packet,
-        time.as_bytes(),
-        from,
-        octets,
-        said,
-        listener,
-    )?;
+    push_part(alloc, &mut text, drawing, how, printed, frame)?;
     Ok(text)
 }
 
-/// Appends the part of a drawing for octets with this text of their time.
+/// Appends the part of a drawing for a frame.
 fn push_part(
     alloc: Global,
     text: &mut Vec<u8>,
     drawing: Drawing,
     how: &FrameStyle,
     printed: u64,
-    packet: Packet,
-    time: &[u8],
-    from: Option<Side>,
-    octets: &[u8],
-    said: &Option<Remarks>,
-    listener: &Option<Listener>,
+    frame: &FrameToDraw<'_>,
 ) -> Result<(), AllocError>
     ensures { OnOk result (text.new.items ≡ text.old.items ++ drawn_part drawing how.now printed
-        packet time.now from octets.now said.now listener.now) }
+        frame.now.packet frame.now.time.now frame.now.from frame.now.octets.now frame.now.said.now
+        frame.now.listener.now) }
 {
     match drawing {
         Drawing::Ladder => {
             push_head_before(text, how.ladder(), printed)?;
             let mut lines = Vec::new(alloc);
-            push_lines(
-                alloc, &mut lines, how, packet, time, from, octets, said, listener,
-            )?;
-            push_red_if(text, is_red(how.is_colored, said), lines.as_slice())
+            push_lines(alloc, &mut lines, how.ladder(), frame)?;
+            push_red_if(text, is_red(how.is_colored, frame.said), lines.as_slice())
         }
-        Drawing::Picture => push_picture_part(
-            alloc,
-            text,
-            how.style.has_names(),
-            printed,
-            packet,
-            time,
-            from,
-            octets,
-            said,
-            listener,
-        ),
-        Drawing::Page => push_page_part(
-            alloc, text, printed, how.count, packet, from, octets, said, listener,
-        ),
-        Drawing::Records => push_record(text, packet, from, octets),
+        Drawing::Picture => push_picture_part(alloc, text, how.style.has_names(), printed, frame),
+        Drawing::Page => push_page_part(alloc, text, printed, how.count, frame),
+        Drawing::Records => push_record(text, frame.packet, frame.from, frame.octets),
     }
 }
 
-/// Appends the lines of a ladder for octets.
+/// Appends the lines of a ladder for a frame.
 fn push_lines(
     alloc: Global,
     text: &mut Vec<u8>,
-    how: &FrameStyle,
-    packet: Packet,
-    time: &[u8],
-    from: Option<Side>,
-    octets: &[u8],
-    said: &Option<Remarks>,
-    listener: &Option<Listener>,
+    style: LadderStyle,
+    frame: &FrameToDraw<'_>,
 ) -> Result<(), AllocError>
-    ensures { OnOk result (text.new.items ≡ text.old.items ++ frame_lines (ladder_of how.now) packet
-        time.now from octets.now said.now listener.now) }
+    ensures { OnOk result (text.new.items ≡ text.old.items ++ frame_lines style frame.now.packet
+        frame.now.time.now frame.now.from frame.now.octets.now frame.now.said.now
+        frame.now.listener.now) }
 {
-    let style = how.ladder();
-    push_rung(alloc, text, style, packet, time, from, octets, listener)?;
-    push_notes(alloc, text, style, packet, from, octets, said)
+    push_rung(alloc, text, style, frame)?;
+    push_notes(alloc, text, style, frame)
 }
 
 /// Whether the lines of a frame are red: one of its remarks is a violation.

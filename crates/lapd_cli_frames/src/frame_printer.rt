@@ -1,12 +1,14 @@
 //! Printing frames one after the other, with the remarks on them if their links are followed.
 
-ghost use Rattle.std.specs.Prelude.{◌≡◌, nat_lt, true, IfOk, OnOk};
+ghost use Rattle.std.specs.Prelude.{◌≡◌, ◌++◌, nat_lt, true, IfOk, OnOk};
 ghost use Rattle.std.specs.String.{string_bytes};
-ghost use Rattle.lapd_cli_frames.specs.Frames.{ClosingEnds, PrintEnds, after_frame, after_missing, after_shown, anew, bare_text, closing_text, followed_packet, frame_text, heard_by, in_zone, is_complete, is_violated_by, line_packet, line_with, listening_by, missing_text, new_printing, said_by, said_if, sent_text, shown_packet, tables_of, text_by, text_with};
+ghost use Rattle.lapd_cli_frames.specs.Frames.{ClosingEnds, PrintEnds, after_frame, after_missing, after_shown, anew, bare_text, closing_text, followed_packet, frame_text, heard_by, in_zone, is_complete, is_violated_by, line_packet, line_with, listening_by, missing_text, new_printing, said_by, said_if, shown_packet, tables_of, text_by};
+ghost use Rattle.lapd_cli_frames.specs.AnySapi.{has_other_sapi};
+ghost use Rattle.lapd_cli_frames.specs.Time.{front_text};
 
 use crate::any_sapi::has_other_sapi;
 use crate::color::put_colored;
-use crate::drawn::{drawn_frame, put_text};
+use crate::drawn::{drawn_part, put_text};
 use crate::frame_style::{Drawing, FrameStyle, Layout};
 use crate::frame_time::either;
 use crate::missing::{Missing, put_missing};
@@ -14,6 +16,7 @@ use crate::senders::sender_by_kind;
 use crate::shown_text::{write_other, write_unsent};
 use crate::style::Style;
 use crate::tables::put_tables;
+use lapd_cli_ladder::FrameToDraw;
 use lapd_cli_render::Packet;
 use lapd_cli_script::{LineFault, ScriptFault};
 use lapd_follow::{Listener, Remarks};
@@ -282,31 +285,13 @@ impl FramePrinter {
             return Err(LineFault::Memory);
         };
         self.frames = self.frames.saturating_add(1);
-        if self.how.takes(is_followed, &said, octets) {
-            self.show(is_followed, &said, packet, from, octets, out)
-        } else {
-            Ok(())
+        if !self.how.takes(is_followed, &said, octets) {
+            return Ok(());
         }
-    }
-
-    /// Prints octets, with these remarks if links are followed, in the layout that was requested.
-    fn show<W: Write>(
-        &mut self,
-        is_followed: bool,
-        said: &Remarks,
-        packet: Packet,
-        from: Option<Side>,
-        octets: &[u8],
-        out: &mut W,
-    ) -> Result<(), LineFault>
-        ensures { PrintEnds (text_with (said_if is_followed said.now) packet from octets.now
-            self.old) (after_shown packet.moment self.old) result self.new (W.contents out.old)
-            (W.contents out.new) }
-    {
         match self.how.layout {
-            Layout::Lines => self.show_line(is_followed, said, packet, from, octets, out),
+            Layout::Lines => self.show_line(is_followed, &said, packet, from, octets, out),
             Layout::Drawn(drawing) => {
-                self.show_drawn(drawing, is_followed, said, packet, from, octets, out)
+                self.show_drawn(drawing, is_followed, &said, packet, from, octets, out)
             }
         }
     }
@@ -330,18 +315,19 @@ impl FramePrinter {
             .how
             .time
             .of(&self.zone, self.first, self.last, packet.moment);
-        let Ok(text) = drawn_frame(
-            self.alloc,
-            drawing,
-            &self.how,
-            self.printed,
+        let Ok(words) = self.how.time.words(self.alloc, time) else {
+            return Err(LineFault::Memory);
+        };
+        let said = said_if(is_followed, said);
+        let frame = FrameToDraw {
             packet,
-            time,
+            time: words.as_bytes(),
             from,
             octets,
-            &said_if(is_followed, said),
-            &self.listener,
-        ) else {
+            said: &said,
+            listener: &self.listener,
+        };
+        let Ok(text) = drawn_part(self.alloc, drawing, &self.how, self.printed, &frame) else {
             return Err(LineFault::Memory);
         };
         self.count(packet.moment);
@@ -372,12 +358,16 @@ impl FramePrinter {
             (after_shown packet.moment self.old) result self.new (W.contents out.old)
             (W.contents out.new) }
     {
-        let style = self.how.style;
+        let time = self
+            .how
+            .time
+            .of(&self.zone, self.first, self.last, packet.moment);
+        self.count(packet.moment);
         let Ok(()) = write_line(
             self.alloc,
-            has_other_sapi(self.how.any_sapi, octets),
             self.origin,
-            style,
+            &self.how,
+            time,
             packet,
             from,
             octets,
@@ -385,24 +375,10 @@ impl FramePrinter {
         ) else {
             return Err(LineFault::Memory);
         };
-        let time = self
-            .how
-            .time
-            .of(&self.zone, self.first, self.last, packet.moment);
-        let Ok(()) = self
-            .how
-            .time
-            .put_before(self.alloc, style, time, &mut self.text)
-        else {
-            return Err(LineFault::Memory);
-        };
-        self.printed = self.printed.saturating_add(1);
-        self.first = either(self.first, packet.moment);
-        self.last = either(packet.moment, self.last);
         put_colored(
             self.alloc,
             self.how.is_colored,
-            style,
+            self.how.style,
             from,
             &mut self.text,
             is_followed,
@@ -486,8 +462,31 @@ fn listen(
     }
 }
 
-/// Replaces `line` with the text of a frame without remarks, which has another SAPI if `is_other`.
+/// Replaces `line` with the text of a frame without remarks, after this time.
 fn write_line(
+    alloc: Global,
+    origin: Origin,
+    how: &FrameStyle,
+    time: Option<u64>,
+    packet: Packet,
+    from: Option<Side>,
+    octets: &[u8],
+    line: &mut String,
+) -> Result<(), AllocError>
+    ensures { OnOk result (string_bytes line.new ≡ front_text how.now.style how.now.time time
+        ++ bare_text (has_other_sapi how.now.any_sapi octets.now) origin how.now.style packet from
+        octets.now) }
+{
+    let is_other = has_other_sapi(how.any_sapi, octets);
+    write_bare(
+        alloc, is_other, origin, how.style, packet, from, octets, line,
+    )?;
+    how.time.put_before(alloc, how.style, time, line)
+}
+
+/// Replaces `line` with the text of a frame without time and remarks, which has another SAPI if
+/// `is_other`.
+fn write_bare(
     alloc: Global,
     is_other: bool,
     origin: Origin,
@@ -506,7 +505,10 @@ fn write_line(
     }
     match from {
         None => write_unsent(alloc, style, packet.is_cut, shown, octets, line),
-        Some(from) => write_sent(alloc, origin, style, packet, from, octets, line),
+        Some(from) => match origin {
+            Origin::Script => style.write(alloc, from, octets, line),
+            Origin::Capture => style.write_packet(alloc, from, octets, packet, line),
+        },
     }
 }
 
@@ -517,25 +519,6 @@ fn shown_packet(origin: Origin, packet: Packet) -> Option<Packet>
     match origin {
         Origin::Script => None,
         Origin::Capture => Some(packet),
-    }
-}
-
-/// Replaces `line` with the text of a frame without remarks, whose sender is known and SAPI served.
-fn write_sent(
-    alloc: Global,
-    origin: Origin,
-    style: Style,
-    packet: Packet,
-    from: Side,
-    octets: &[u8],
-    line: &mut String,
-) -> Result<(), AllocError>
-    ensures { OnOk result (string_bytes line.new
-        ≡ sent_text origin style packet from octets.now) }
-{
-    match origin {
-        Origin::Script => style.write(alloc, from, octets, line),
-        Origin::Capture => style.write_packet(alloc, from, octets, packet, line),
     }
 }
 

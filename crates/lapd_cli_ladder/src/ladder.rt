@@ -7,9 +7,8 @@ ghost use Rattle.lapd_cli_ladder.specs.Ladder.{arrival_line, arrow, arrow_or_los
 
 use crate::columns::{push_filled, push_right, push_shortened};
 use crate::ends::known_words;
+use crate::frame_to_draw::FrameToDraw;
 use crate::words::{frame_words, reading_of};
-use lapd_cli_render::Packet;
-use lapd_follow::Listener;
 use lapd_frame::Side;
 use std::alloc::{AllocError, Global};
 
@@ -82,8 +81,7 @@ fn time_heading(width: usize) -> &'static [u8]
     if width == 0 { b"" } else { b"time " }
 }
 
-/// Appends the line of the octets that `from` sent in this packet at this time, or that one of both
-/// sides sent if it is not known which. `listener` knows the ends of its link after it.
+/// Appends the line of a frame.
 ///
 /// # Errors
 ///
@@ -92,28 +90,24 @@ pub fn push_rung(
     alloc: Global,
     text: &mut Vec<u8>,
     style: LadderStyle,
-    packet: Packet,
-    time: &[u8],
-    from: Option<Side>,
-    octets: &[u8],
-    listener: &Option<Listener>,
+    frame: &FrameToDraw<'_>,
 ) -> Result<(), AllocError>
-    ensures { OnOk result (text.new.items ≡ text.old.items
-        ++ rung_line style packet time.now from octets.now listener.now) }
+    ensures { OnOk result (text.new.items ≡ text.old.items ++ rung_line style frame.now.packet
+        frame.now.time.now frame.now.from frame.now.octets.now frame.now.listener.now) }
 {
-    let frame = reading_of(from, octets);
-    let words = frame_words(alloc, style.names, from, octets, &frame)?;
-    let user = known_words(alloc, Side::User, &frame, listener)?;
-    let network = known_words(alloc, Side::Network, &frame, listener)?;
-    let number = number_words(alloc, packet.number)?;
+    let reading = reading_of(frame.from, frame.octets);
+    let words = frame_words(alloc, style.names, frame.from, frame.octets, &reading)?;
+    let user = known_words(alloc, Side::User, &reading, frame.listener)?;
+    let network = known_words(alloc, Side::Network, &reading, frame.listener)?;
+    let number = number_words(alloc, frame.packet.number)?;
     let mut between = Vec::new(alloc);
     let width = between_width(style.time_width);
-    push_arrow(alloc, &mut between, width, from, words.as_bytes())?;
+    push_arrow(alloc, &mut between, width, frame.from, words.as_bytes())?;
     push_line(
         text,
         style.time_width,
         number.as_bytes(),
-        time,
+        frame.time,
         user.as_bytes(),
         between.as_slice(),
         network.as_bytes(),

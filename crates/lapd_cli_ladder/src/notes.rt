@@ -8,15 +8,16 @@ ghost use Rattle.lapd_cli_ladder.specs.Words.{class_mark, remark_words};
 
 use crate::LadderStyle;
 use crate::columns::push_left;
+use crate::frame_to_draw::FrameToDraw;
 use crate::ladder::{between_width, push_line};
 use crate::words::said_beside;
-use lapd_cli_render::{Packet, push_names};
+use lapd_cli_render::push_names;
 use lapd_follow::{Class, Remark, Remarks};
 use lapd_frame::Side;
 use std::alloc::{AllocError, Global};
 
-/// Appends the lines below that of octets in this packet, of this sender if it is known: a mark if
-/// the packet was cut, the name of the message if that is requested, and the remarks.
+/// Appends the lines below that of a frame: a mark if the packet was cut, the name of the message
+/// if that is requested, and the remarks.
 ///
 /// # Errors
 ///
@@ -25,17 +26,14 @@ pub fn push_notes(
     alloc: Global,
     text: &mut Vec<u8>,
     style: LadderStyle,
-    packet: Packet,
-    from: Option<Side>,
-    octets: &[u8],
-    said: &Option<Remarks>,
+    frame: &FrameToDraw<'_>,
 ) -> Result<(), AllocError>
-    ensures { OnOk result (text.new.items ≡ text.old.items
-        ++ note_lines style packet from octets.now said.now) }
+    ensures { OnOk result (text.new.items ≡ text.old.items ++ note_lines style frame.now.packet
+        frame.now.from frame.now.octets.now frame.now.said.now) }
 {
-    push_cut(alloc, text, style.time_width, packet.is_cut)?;
-    push_message(alloc, text, style, from, octets)?;
-    push_remarks(alloc, text, style, said)
+    push_cut(alloc, text, style.time_width, frame.packet.is_cut)?;
+    push_message(alloc, text, style, frame.from, frame.octets)?;
+    push_remarks(alloc, text, style, frame.said)
 }
 
 /// Appends a line if the capture has only the first octets of a frame.

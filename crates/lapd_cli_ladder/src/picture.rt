@@ -8,11 +8,11 @@ ghost use Rattle.lapd_cli_ladder.specs.Picture.{arrow_element, begin_frame, begi
 
 use crate::columns::push_shortened;
 use crate::ends::known_words;
+use crate::frame_to_draw::FrameToDraw;
 use crate::ladder::number_words;
 use crate::picture_notes::push_note_words;
 use crate::words::{frame_words, reading_of};
-use lapd_cli_render::Packet;
-use lapd_follow::{Listener, Remarks};
+use lapd_follow::Remarks;
 use lapd_frame::Side;
 use std::alloc::{AllocError, Global};
 
@@ -42,8 +42,7 @@ pub const PICTURE_END: &str = "</svg>\n";
 const HEADINGS: &[u8] =
     b"<rect width=\"940\" height=\"1000\" class=\"page\"/><text x=\"60\" y=\"40\" class=\"end\">packet</text><text x=\"190\" y=\"40\" class=\"end\">time</text><text x=\"310\" y=\"40\" class=\"middle\">user</text><text x=\"810\" y=\"40\" class=\"middle\">network</text><text x=\"470\" y=\"990\" class=\"middle\">";
 
-/// Appends the part of a picture for octets in this packet at this time, of this sender if it is
-/// known, as the frame of this place, from 0. `listener` knows the ends of its link after it.
+/// Appends the part of a picture for a frame, the one of this place, from 0.
 ///
 /// # Errors
 ///
@@ -53,20 +52,14 @@ pub fn push_picture_part(
     text: &mut Vec<u8>,
     names: bool,
     place: u64,
-    packet: Packet,
-    time: &[u8],
-    from: Option<Side>,
-    octets: &[u8],
-    said: &Option<Remarks>,
-    listener: &Option<Listener>,
+    frame: &FrameToDraw<'_>,
 ) -> Result<(), AllocError>
-    ensures { OnOk result (text.new.items ≡ text.old.items ++ picture_part names place packet
-        time.now from octets.now said.now listener.now) }
+    ensures { OnOk result (text.new.items ≡ text.old.items ++ picture_part names place
+        frame.now.packet frame.now.time.now frame.now.from frame.now.octets.now frame.now.said.now
+        frame.now.listener.now) }
 {
     push_page_before(alloc, text, place)?;
-    push_element(
-        alloc, text, names, place, packet, time, from, octets, said, listener,
-    )
+    push_element(alloc, text, names, place, frame)
 }
 
 /// Appends the page of the frame of this place, if it is the first there.
@@ -149,20 +142,16 @@ fn push_element(
     text: &mut Vec<u8>,
     names: bool,
     place: u64,
-    packet: Packet,
-    time: &[u8],
-    from: Option<Side>,
-    octets: &[u8],
-    said: &Option<Remarks>,
-    listener: &Option<Listener>,
+    frame: &FrameToDraw<'_>,
 ) -> Result<(), AllocError>
-    ensures { OnOk result (text.new.items ≡ text.old.items ++ frame_element names place packet
-        time.now from octets.now said.now listener.now) }
+    ensures { OnOk result (text.new.items ≡ text.old.items ++ frame_element names place
+        frame.now.packet frame.now.time.now frame.now.from frame.now.octets.now frame.now.said.now
+        frame.now.listener.now) }
 {
-    push_element_front(alloc, text, place, packet, time, from)?;
-    push_ends(alloc, text, from, octets, listener)?;
-    push_label(alloc, text, names, from, octets)?;
-    push_element_notes(alloc, text, names, packet, from, octets, said)?;
+    push_element_front(alloc, text, place, frame)?;
+    push_ends(alloc, text, frame)?;
+    push_label(alloc, text, names, frame)?;
+    push_element_notes(alloc, text, names, frame)?;
     text.extend_from_slice(b"</g></g>\n")
 }
 
@@ -172,33 +161,25 @@ fn push_element_front(
     alloc: Global,
     text: &mut Vec<u8>,
     place: u64,
-    packet: Packet,
-    time: &[u8],
-    from: Option<Side>,
+    frame: &FrameToDraw<'_>,
 ) -> Result<(), AllocError>
-    ensures { OnOk result (text.new.items
-        ≡ text.old.items ++ element_front place packet time.now from) }
+    ensures { OnOk result (text.new.items ≡ text.old.items
+        ++ element_front place frame.now.packet frame.now.time.now frame.now.from) }
 {
     push_begin_frame(alloc, text, place)?;
-    text.extend_from_slice(arrow_element(from))?;
-    push_number_element(alloc, text, packet.number)?;
-    push_time_element(text, time)
+    text.extend_from_slice(arrow_element(frame.from))?;
+    push_number_element(alloc, text, frame.packet.number)?;
+    push_time_element(text, frame.time)
 }
 
 /// Appends the words of both ends.
 #[tactic(auto, unfolding(crate::specs::Picture::ends_elements))]
-fn push_ends(
-    alloc: Global,
-    text: &mut Vec<u8>,
-    from: Option<Side>,
-    octets: &[u8],
-    listener: &Option<Listener>,
-) -> Result<(), AllocError>
-    ensures { OnOk result (text.new.items
-        ≡ text.old.items ++ ends_elements from octets.now listener.now) }
+fn push_ends(alloc: Global, text: &mut Vec<u8>, frame: &FrameToDraw<'_>) -> Result<(), AllocError>
+    ensures { OnOk result (text.new.items ≡ text.old.items
+        ++ ends_elements frame.now.from frame.now.octets.now frame.now.listener.now) }
 {
-    push_end(alloc, text, Side::User, from, octets, listener)?;
-    push_end(alloc, text, Side::Network, from, octets, listener)
+    push_end(alloc, text, Side::User, frame)?;
+    push_end(alloc, text, Side::Network, frame)
 }
 
 /// Appends the number of a packet.
@@ -224,15 +205,13 @@ fn push_end(
     alloc: Global,
     text: &mut Vec<u8>,
     side: Side,
-    from: Option<Side>,
-    octets: &[u8],
-    listener: &Option<Listener>,
+    frame: &FrameToDraw<'_>,
 ) -> Result<(), AllocError>
-    ensures { OnOk result (text.new.items
-        ≡ text.old.items ++ end_element side from octets.now listener.now) }
+    ensures { OnOk result (text.new.items ≡ text.old.items
+        ++ end_element side frame.now.from frame.now.octets.now frame.now.listener.now) }
 {
-    let frame = reading_of(from, octets);
-    let words = known_words(alloc, side, &frame, listener)?;
+    let reading = reading_of(frame.from, frame.octets);
+    let words = known_words(alloc, side, &reading, frame.listener)?;
     push_text(text, end_attributes(side), words.as_bytes())
 }
 
@@ -247,17 +226,12 @@ fn end_attributes(side: Side) -> &'static [u8]
 }
 
 /// The words above an arrow.
-fn label_words(
-    alloc: Global,
-    names: bool,
-    from: Option<Side>,
-    octets: &[u8],
-) -> Result<Vec<u8>, AllocError>
-    ensures { IfOk result (λ label. label.items
-        ≡ shortened 66 (frame_words names from octets.now (reading_of from octets.now))) }
+fn label_words(alloc: Global, names: bool, frame: &FrameToDraw<'_>) -> Result<Vec<u8>, AllocError>
+    ensures { IfOk result (λ label. label.items ≡ shortened 66 (frame_words names frame.now.from
+        frame.now.octets.now (reading_of frame.now.from frame.now.octets.now))) }
 {
-    let frame = reading_of(from, octets);
-    let words = frame_words(alloc, names, from, octets, &frame)?;
+    let reading = reading_of(frame.from, frame.octets);
+    let words = frame_words(alloc, names, frame.from, frame.octets, &reading)?;
     let mut label = Vec::new(alloc);
     push_shortened(&mut label, MOST_WORDS, words.as_bytes())?;
     Ok(label)
@@ -269,13 +243,12 @@ fn push_label(
     alloc: Global,
     text: &mut Vec<u8>,
     names: bool,
-    from: Option<Side>,
-    octets: &[u8],
+    frame: &FrameToDraw<'_>,
 ) -> Result<(), AllocError>
     ensures { OnOk result (text.new.items
-        ≡ text.old.items ++ label_element names from octets.now) }
+        ≡ text.old.items ++ label_element names frame.now.from frame.now.octets.now) }
 {
-    let label = label_words(alloc, names, from, octets)?;
+    let label = label_words(alloc, names, frame)?;
     push_text(
         text,
         b"x=\"560\" y=\"-5\" class=\"middle\"",
@@ -289,19 +262,16 @@ fn push_element_notes(
     alloc: Global,
     text: &mut Vec<u8>,
     names: bool,
-    packet: Packet,
-    from: Option<Side>,
-    octets: &[u8],
-    said: &Option<Remarks>,
+    frame: &FrameToDraw<'_>,
 ) -> Result<(), AllocError>
-    ensures { OnOk result (text.new.items
-        ≡ text.old.items ++ notes_element names packet from octets.now said.now) }
+    ensures { OnOk result (text.new.items ≡ text.old.items ++ notes_element names
+        frame.now.packet frame.now.from frame.now.octets.now frame.now.said.now) }
 {
     let mut words = Vec::new(alloc);
-    push_note_words(alloc, &mut words, names, packet, from, octets, said)?;
+    push_note_words(alloc, &mut words, names, frame)?;
     let mut notes = Vec::new(alloc);
     push_shortened(&mut notes, MOST_NOTES, words.as_slice())?;
-    push_text(text, note_attributes(said), notes.as_slice())
+    push_text(text, note_attributes(frame.said), notes.as_slice())
 }
 
 /// The attributes of the words below an arrow: they are red if a remark is a violation.

@@ -6,30 +6,28 @@ ghost use Rattle.lapd_cli_render.specs.Names.{names_text};
 ghost use Rattle.lapd_cli_ladder.specs.Picture.{cut_words, joined, message_words, note_words, said_words};
 ghost use Rattle.lapd_follow.specs.Texts.{remarks_text};
 
+use crate::frame_to_draw::FrameToDraw;
 use crate::words::said_beside;
-use lapd_cli_render::{Packet, push_names};
+use lapd_cli_render::push_names;
 use lapd_follow::Remarks;
 use lapd_frame::Side;
 use std::alloc::{AllocError, Global};
 
-/// Appends the notes on octets in this packet, of this sender if it is known.
+/// Appends the notes on a frame.
 pub(crate) fn push_note_words(
     alloc: Global,
     text: &mut Vec<u8>,
     names: bool,
-    packet: Packet,
-    from: Option<Side>,
-    octets: &[u8],
-    said: &Option<Remarks>,
+    frame: &FrameToDraw<'_>,
 ) -> Result<(), AllocError>
-    ensures { OnOk result (text.new.items
-        ≡ text.old.items ++ note_words names packet from octets.now said.now) }
+    ensures { OnOk result (text.new.items ≡ text.old.items ++ note_words names frame.now.packet
+        frame.now.from frame.now.octets.now frame.now.said.now) }
 {
-    let message = message_words(alloc, names, from, octets)?;
-    let said = said_words(alloc, names, said)?;
+    let message = message_words(alloc, names, frame.from, frame.octets)?;
+    let said = said_words(alloc, names, frame.said)?;
     let mut both = Vec::new(alloc);
     push_joined(&mut both, message.as_slice(), said.as_slice())?;
-    push_joined(text, cut_words(packet.is_cut), both.as_slice())
+    push_joined(text, cut_words(frame.packet.is_cut), both.as_slice())
 }
 
 /// Appends two notes, with a semicolon between them if there are both.

@@ -6,15 +6,14 @@ ghost use Rattle.std.specs.String.{string_bytes};
 ghost use Rattle.lapd_cli_page.specs.Row.{cut_cell, each_remark, end_cells, escaped, escaped_octet, frame_cells, frame_row, is_plain, label_words, limit_row, message_words, missing_row, moment_words, note_cells, packet_cells, page_part, remark_cell, remark_cells, remark_or_none, row_before, sender_letter, text_cell};
 ghost use Rattle.lapd_follow.specs.Texts.{remark_text};
 
-use lapd_cli_ladder::{Packet, known_role, known_words, push_control, reading_of};
+use lapd_cli_ladder::{FrameToDraw, Packet, known_role, known_words, push_control, reading_of};
 use lapd_cli_render::push_names;
-use lapd_follow::{Listener, Remark, Remarks};
+use lapd_follow::{Remark, Remarks};
 use lapd_frame::{Frame, FrameFault, Side};
 use std::alloc::{AllocError, Global};
 
-/// Appends the rows for octets in this packet, of this sender if it is known, as the frame of this
-/// place, from 0. The page has at most `limit` frames, if there is a limit. `listener` knows the ends
-/// of the frame's link after it.
+/// Appends the rows for a frame, the one of this place, from 0. The page has at most `limit`
+/// frames, if there is a limit.
 ///
 /// # Errors
 ///
@@ -24,17 +23,14 @@ pub fn push_page_part(
     text: &mut Vec<u8>,
     place: u64,
     limit: Option<u64>,
-    packet: Packet,
-    from: Option<Side>,
-    octets: &[u8],
-    said: &Option<Remarks>,
-    listener: &Option<Listener>,
+    frame: &FrameToDraw<'_>,
 ) -> Result<(), AllocError>
-    ensures { OnOk result (text.new.items ≡ text.old.items ++ page_part place limit packet from
-        octets.now said.now listener.now) }
+    ensures { OnOk result (text.new.items ≡ text.old.items ++ page_part place limit
+        frame.now.packet frame.now.from frame.now.octets.now frame.now.said.now
+        frame.now.listener.now) }
 {
     push_row_before(alloc, text, place, limit)?;
-    push_frame(alloc, text, packet, from, octets, said, listener)
+    push_frame(alloc, text, frame)
 }
 
 /// Appends the row about this many frames that a capture lacks.
@@ -77,24 +73,16 @@ fn push_limit(alloc: Global, text: &mut Vec<u8>, limit: Option<u64>) -> Result<(
 }
 
 /// Appends the row of a frame.
-fn push_frame(
-    alloc: Global,
-    text: &mut Vec<u8>,
-    packet: Packet,
-    from: Option<Side>,
-    octets: &[u8],
-    said: &Option<Remarks>,
-    listener: &Option<Listener>,
-) -> Result<(), AllocError>
-    ensures { OnOk result (text.new.items
-        ≡ text.old.items ++ frame_row packet from octets.now said.now listener.now) }
+fn push_frame(alloc: Global, text: &mut Vec<u8>, frame: &FrameToDraw<'_>) -> Result<(), AllocError>
+    ensures { OnOk result (text.new.items ≡ text.old.items ++ frame_row frame.now.packet
+        frame.now.from frame.now.octets.now frame.now.said.now frame.now.listener.now) }
 {
     text.extend_from_slice(b"[")?;
-    push_packet_cells(alloc, text, packet, from)?;
-    push_frame_cells(alloc, text, from, octets)?;
-    push_end_cells(alloc, text, from, octets, listener)?;
-    push_note_cells(alloc, text, packet, from, octets)?;
-    push_remark_cells(alloc, text, said)?;
+    push_packet_cells(alloc, text, frame.packet, frame.from)?;
+    push_frame_cells(alloc, text, frame.from, frame.octets)?;
+    push_end_cells(alloc, text, frame)?;
+    push_note_cells(alloc, text, frame)?;
+    push_remark_cells(alloc, text, frame.said)?;
     text.extend_from_slice(b"],\n")
 }
 
@@ -135,16 +123,14 @@ fn push_frame_cells(
 fn push_end_cells(
     alloc: Global,
     text: &mut Vec<u8>,
-    from: Option<Side>,
-    octets: &[u8],
-    listener: &Option<Listener>,
+    frame: &FrameToDraw<'_>,
 ) -> Result<(), AllocError>
-    ensures { OnOk result (text.new.items
-        ≡ text.old.items ++ end_cells from octets.now listener.now) }
+    ensures { OnOk result (text.new.items ≡ text.old.items
+        ++ end_cells frame.now.from frame.now.octets.now frame.now.listener.now) }
 {
-    let frame = reading_of(from, octets);
-    let user = known_words(alloc, Side::User, &frame, listener)?;
-    let network = known_words(alloc, Side::Network, &frame, listener)?;
+    let reading = reading_of(frame.from, frame.octets);
+    let user = known_words(alloc, Side::User, &reading, frame.listener)?;
+    let network = known_words(alloc, Side::Network, &reading, frame.listener)?;
     push_text(alloc, text, user.as_bytes())?;
     push_text(alloc, text, network.as_bytes())
 }
@@ -154,16 +140,14 @@ fn push_end_cells(
 fn push_note_cells(
     alloc: Global,
     text: &mut Vec<u8>,
-    packet: Packet,
-    from: Option<Side>,
-    octets: &[u8],
+    frame: &FrameToDraw<'_>,
 ) -> Result<(), AllocError>
-    ensures { OnOk result (text.new.items
-        ≡ text.old.items ++ note_cells packet from octets.now) }
+    ensures { OnOk result (text.new.items ≡ text.old.items
+        ++ note_cells frame.now.packet frame.now.from frame.now.octets.now) }
 {
-    let message = message_words(alloc, from, octets)?;
+    let message = message_words(alloc, frame.from, frame.octets)?;
     push_text(alloc, text, message.as_slice())?;
-    text.extend_from_slice(cut_cell(packet.is_cut))
+    text.extend_from_slice(cut_cell(frame.packet.is_cut))
 }
 
 /// Whether a packet was cut.
