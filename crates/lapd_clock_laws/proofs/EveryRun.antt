@@ -24,12 +24,11 @@ use Rattle.lapd_side_events.specs.SideView.{Behaviour, SideView, SideEvent, Take
 use Rattle.lapd_two_side_laws.specs.Addressed.{is_for, is_poll_for, is_final_for, those_for}
 use Rattle.lapd_two_side_laws.specs.Premises.{AreTimely, IsTimely, IsTimelyMove}
 use Rattle.lapd_two_side_laws.proofs.Reactions.{AnyRequest, HoldsOfRules}
-use Rattle.lapd_bus_laws.proofs.Lists.{none_first}
 use Rattle.lapd_clock_laws.specs.Clock.{Clock, Sent, Shows, SideClock, clock_after, new_clock, moment_of, network_clock, octets_of, sent_at, ticks, user_clock}
 use Rattle.lapd_clock_laws.specs.InTime.{AreInTime, AreSent, HasLongT200, IsClear, IsInTime, IsLongEnough, OfMove, OverhearsOthers, OverhearOthers}
 use Rattle.lapd_clock_laws.proofs.EachSide.{GoesOn, event_goes_on, network_goes_on, takes_poll, user_goes_on}
 use Rattle.lapd_clock_laws.proofs.LinkDeadlines.{Proceeds, RunsLong, by_either, carried_on, given_carries, joined, none_runs_long, t200_of}
-use Rattle.lapd_clock_laws.proofs.SideClocks.{IsAwaited, all_still, event_of_other, nothing_awaited, nothing_in_transit, own_event, sent_are, still_left}
+use Rattle.lapd_clock_laws.proofs.SideClocks.{IsAwaited, all_still, any_moment, event_of_other, none_of_link, nothing_awaited, nothing_in_transit, own_event, sent_are, still_left}
 
 -- ---- What holds of a link between the events of a run.
 
@@ -251,34 +250,19 @@ module _ (c : Configs) (id : LinkId) (low : id.tei < 127) (longest : ℕ) (posit
 
   -- ---- The start.
 
-  none_of_link : (from : Side) (line : List Sent) → those_for from id (octets_of line) ≡ []
-      → AreSent from id (λ at. ⊥) line
-  none_of_link from [] none = All-nil (λ (sent : Sent). is_for from id sent.octets ≡ true → ⊥)
-  none_of_link from (sent ∷ line) none =
-      let two = none_first (is_for from id) sent.octets (octets_of line) none in
-      All-cons (λ (sent : Sent). is_for from id sent.octets ≡ true → ⊥) sent line
-      (λ its. (let no : false ≡ true = sym two.0 ∙ its in cc)) (none_of_link from line two.1)
-
-  any_moment : (from : Side) (now : ℕ) (line : List Sent) → AreSent from id (λ at. ⊥) line
-      → AreSent from id (λ at. at ≤ now) line
-  any_moment from now line none = All-weaker
-      (λ (sent : Sent). is_for from id sent.octets ≡ true → ⊥)
-      (λ (sent : Sent). is_for from id sent.octets ≡ true → sent.at ≤ now)
-      (λ sent impossible its. absurd (impossible its)) line none
-
   pub starts : (i : Interface) (k : Clock) → Shows k i → IsClear id i
       → HasLongT200 longest (i.user.served.links id)
       → HasLongT200 longest (i.network.served.links id) → HoldsOfUser i k
   starts i k shows clear long_user long_network =
-      let into : AreSent side.Network id (λ at. ⊥) k.to_user = none_of_link side.Network k.to_user
-      (ap (those_for side.Network id) shows.to_user ∙ clear.to_user) in
-      let out : AreSent side.User id (λ at. ⊥) k.to_network = none_of_link side.User k.to_network
-      (ap (those_for side.User id) shows.to_network ∙ clear.to_network) in
+      let into : AreSent side.Network id (λ at. ⊥) k.to_user = none_of_link side.Network id
+      k.to_user (ap (those_for side.Network id) shows.to_user ∙ clear.to_user) in
+      let out : AreSent side.User id (λ at. ⊥) k.to_network = none_of_link side.User id
+      k.to_network (ap (those_for side.User id) shows.to_network ∙ clear.to_network) in
       record {
         lines = record { incoming = shows.to_user; outgoing = shows.to_network };
         past = record {
-          incoming = any_moment side.Network k.now k.to_user into;
-          outgoing = any_moment side.User k.now k.to_network out;
+          incoming = any_moment side.Network id (λ at. at ≤ k.now) k.to_user into;
+          outgoing = any_moment side.User id (λ at. at ≤ k.now) k.to_network out;
         };
         own_awaits = nothing_awaited longest side.User side.Network id
             (i.user.served.links id) k.to_network k.to_user out into;

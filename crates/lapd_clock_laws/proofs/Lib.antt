@@ -3,9 +3,6 @@ pub mod LinkDeadlines
 pub mod EachSide
 pub mod SideClocks
 pub mod EveryRun
-pub mod Along
 pub mod Safe
 pub mod Tests
 pub mod RunsComputed
-pub mod AcrossRestarts
-pub mod AcrossComputed

@@ -1,25 +1,19 @@
 -- The worked runs, computed.
-use Rattle.std.proofs.Common.{Bool, ◌≡◌, ℕ, ◌&&◌, List, [], ◌∷◌, true, false, Some, refl}
-use Rattle.std.specs.Prelude.{Vec, is_some, slice_get}
+use Rattle.std.proofs.Common.{◌≡◌, ℕ, ◌&&◌, List, [], ◌∷◌, true, false, refl}
+use Rattle.std.specs.Prelude.{Vec}
 use Rattle.std.specs.declared.alloc.Global.{Global}
 use Rattle.lapd_pair_laws.specs.Schedule.{one_message, two_messages}
 use Rattle.lapd_sides_links.specs.declared.primitive.What.TheVariants as what
-use Rattle.lapd_side_events.specs.Bus.{Bus, BusEvent, OfTerminal, OfNetwork, Join, Restart, after_events, from_now, interface_of, moves_along}
-use Rattle.lapd_side_events.specs.Interface.{Configs, from_here, Interface, Move, run}
+use Rattle.lapd_side_events.specs.Interface.{Configs, Interface, Move, run}
 use Rattle.lapd_two_side_laws.specs.Premises.{AreTimely, GiveTeiOnce}
 use Rattle.lapd_two_side_laws.specs.Primitives.{given_to, known_of, link_primitives}
 use Rattle.lapd_two_side_laws.specs.Projects.{IsReceivedByUser}
 use Rattle.lapd_two_side_laws.specs.Schedule.{at_first, call, configs, IsMessage}
 use Rattle.lapd_two_side_laws.proofs.MoveTests.{give_once}
 use Rattle.lapd_two_side_laws.proofs.Computed.{Fits, first_for_second, holding, with_both, with_octets}
-use Rattle.lapd_bus_laws.specs.Links.{Throughout as bus_throughout}
-use Rattle.lapd_bus_laws.specs.Runs.{fixed_call, two_fixed}
-use Rattle.lapd_bus_laws.proofs.Checks.{keeps_holding, keeps_holding_so, passes as bus_passes, throughout_by}
-use Rattle.lapd_link_definition.proofs.Sending.{both_true}
-use Rattle.lapd_clock_laws.specs.Buses.{HasLine, KeepsTei}
 use Rattle.lapd_clock_laws.specs.Clock.{new_clock}
-use Rattle.lapd_clock_laws.specs.InTime.{AreInTime, IsInOrder, IsInRange, IsPrompt, IsWhenDue, OverhearOthers, Premise, TakesFirst, Throughout}
-use Rattle.lapd_clock_laws.specs.Runs.{AllButInOrder, AllButInRange, AllButPrompt, AllButTakesFirst, AllButWhenDue, at_half, at_the_end, bus_at_half, first_terminal, half_of_t200, hasty_at, hurried_at_first, hurried_configs, turned_back}
+use Rattle.lapd_clock_laws.specs.InTime.{AreInTime, IsInOrder, IsInRange, IsPrompt, IsWhenDue, Premise, TakesFirst, Throughout}
+use Rattle.lapd_clock_laws.specs.Runs.{AllButInOrder, AllButInRange, AllButPrompt, AllButTakesFirst, AllButWhenDue, at_half, at_the_end, half_of_t200, hasty_at, hurried_at_first, hurried_configs, turned_back}
 use Rattle.lapd_clock_laws.proofs.Tests.{IsSound, Test, both_sound, in_order, in_order_so, in_range, in_range_so, in_time, in_time_so, passes, prompt, prompt_so, takes_first, takes_first_so, throughout_so, when_due, when_due_so}
 use Rattle.lapd_two_side_laws.proofs.ComputedEvents.{computed_events}
 
@@ -266,71 +260,3 @@ at_the_end_kept = throughout_so configs (AllButInRange half_of_t200) not_in_rang
     (both_sound InOrder _ in_order _ in_order_so
     (both_sound Prompt _ (prompt half_of_t200 call) _ (prompt_so half_of_t200 call)
     first_and_due)) at_the_end at_first (new_clock 0) at_the_end_passes
-
--- ---- A bus.
-
-abbrev has_line : BusEvent → Bus → Bool
-has_line (OfNetwork j event) b = is_some (slice_get b.terminals j)
-has_line event b = true
-
-has_line_so : (e : BusEvent) (b : Bus) → has_line e b ≡ true → HasLine e b
-has_line_so (OfTerminal j event) b h = tt
-has_line_so (OfNetwork j event) b h = h
-has_line_so (Join j new) b h = tt
-has_line_so (Restart known) b h = tt
-
-abbrev keeps_tei : BusEvent → Bus → Bool
-keeps_tei e b = keeps_holding configs fixed_call 0 e b && has_line e b
-
-keeps_tei_so : (e : BusEvent) (b : Bus) → keeps_tei e b ≡ true → KeepsTei configs fixed_call 0 e b
-keeps_tei_so e b h =
-    let two = both_true (keeps_holding configs fixed_call 0 e b) (has_line e b) h in
-    let kept = keeps_holding_so configs fixed_call 0 e b two.0 in
-    record {
-      leaves = kept.leaves;
-      assigns = kept.assigns;
-      requests = kept.requests;
-      line = has_line_so e b two.1;
-    }
-
-abbrev Along : Vec ℕ Global → List Move
-Along message = moves_along configs 0 (bus_at_half message) (from_now two_fixed)
-
-pub record BusAtHalf (message : Vec ℕ Global) : Type 0 where
-  pub keeps : bus_passes configs keeps_tei (bus_at_half message) (from_now two_fixed) ≡ true
-  pub others : OverhearOthers fixed_call (Along message)
-  pub in_time : passes configs (in_time half_of_t200 fixed_call) (Along message)
-      (from_here (interface_of first_terminal two_fixed)) (new_clock 0) ≡ true
-  pub to_network : link_primitives fixed_call
-      (after_events configs (bus_at_half message) (from_now two_fixed)).delivered
-      ≡ what.Established ∷ what.Up (1 ∷ []) ∷ []
-
-bus_at_half_holds : (v : Vec ℕ Global) (x : Fits v (1 ∷ [])) → BusAtHalf (holding v (1 ∷ []) x)
-unfolding whole_table
-bus_at_half_holds v x = record {
-  keeps = refl;
-  others = (tt, (tt, (tt, (refl, (tt, (tt, (tt, (tt, tt))))))));
-  in_time = refl;
-  to_network = refl;
-}
-
-pub bus_at_half_so : (message : Vec ℕ Global) → IsMessage 1 message → BusAtHalf message
-bus_at_half_so = with_octets BusAtHalf (1 ∷ []) bus_at_half_holds
-
-pub bus_at_half_kept : (message : Vec ℕ Global) → IsMessage 1 message
-    → bus_throughout configs (KeepsTei configs fixed_call 0) (bus_at_half message)
-    (from_now two_fixed)
-bus_at_half_kept message one = throughout_by configs (KeepsTei configs fixed_call 0) keeps_tei
-    keeps_tei_so (bus_at_half message) (from_now two_fixed) (bus_at_half_so message one).keeps
-
-pub bus_at_half_in_time : (message : Vec ℕ Global) → IsMessage 1 message
-    → AreInTime half_of_t200 configs fixed_call (Along message)
-    (from_here (interface_of first_terminal two_fixed)) (new_clock 0)
-bus_at_half_in_time message one = throughout_so configs _ (in_time half_of_t200 fixed_call)
-    (in_time_so half_of_t200 fixed_call) (Along message)
-    (from_here (interface_of first_terminal two_fixed)) (new_clock 0)
-    (bus_at_half_so message one).in_time
-
-pub first_is_there : slice_get two_fixed.terminals 0 ≡ Some first_terminal
-unfolding whole_table
-first_is_there = refl

@@ -1,7 +1,7 @@
 -- The deadline of a link's T200 is late enough for each command with P=1 and each answer in
 -- transit: each event of a side keeps this, at both sides, if it is in time. So T200 expires only
 -- when none is in transit.
-use Rattle.std.proofs.Common.{◌≡◌, inl, inr, ℕ, zero, suc, ◌+◌, ◌*◌, ◌≤◌, ◌<◌, ◌&&◌, List, [], ◌∷◌, ◌++◌, Bool, true, false, Option, Some, refl, sym, ap, ◌∙◌, arith}
+use Rattle.std.proofs.Common.{◌≡◌, inl, inr, ℕ, zero, suc, ◌+◌, ◌*◌, ◌≤◌, ◌<◌, ◌&&◌, List, [], ◌∷◌, ◌++◌, Bool, true, false, if◌then◌else◌, Option, Some, refl, sym, ap, ◌∙◌, arith}
 use Rattle.std.specs.Prelude.{◌||◌}
 use Rattle.std.specs.List.{All, list_any, remove}
 use Rattle.std.proofs.lemmas.List.Elements.{All-nil, All-cons, All-append, All-head, All-tail, All-drop, All-weaker}
@@ -10,7 +10,7 @@ use Rattle.lapd_frame.specs.Reading.{frame_at}
 use Rattle.lapd_table.specs.declared.link_id.LinkId.{LinkId}
 use Rattle.lapd_sides_links.specs.Links.{Linked}
 use Rattle.lapd_side_events.specs.SideView.{SideEvent, Take, Lose, Expire, Ask, Overhear, left}
-use Rattle.lapd_two_side_laws.specs.Addressed.{is_for, is_poll_for, is_final_for, reads_as_poll, reads_as_final}
+use Rattle.lapd_two_side_laws.specs.Addressed.{is_for, is_poll_for, is_final_for, those_for, reads_as_poll, reads_as_final}
 use Rattle.lapd_clock_laws.specs.Clock.{Sent, SideClock, octets_of, moment_of, still_in_transit, sent_at}
 use Rattle.lapd_clock_laws.specs.InTime.{AreSent}
 use Rattle.lapd_clock_laws.proofs.EachSide.{takes_poll}
@@ -105,6 +105,34 @@ still_left (Overhear octets now) line = refl
 pub sent_are : (now : ℕ) (frames : List (List ℕ)) → octets_of (sent_at now frames) ≡ frames
 sent_are now [] = refl
 sent_are now (octets ∷ frames) = ap (λ (l : List (List ℕ)). octets ∷ l) (sent_are now frames)
+
+-- ---- No octets of a link in transit.
+
+first_is_other : (from : Side) (id : LinkId) (octets : List ℕ) (frames : List (List ℕ))
+    → those_for from id (octets ∷ frames) ≡ [] → (is_for from id octets ≡ false)
+    × (those_for from id frames ≡ [])
+first_is_other from id octets frames none = by (is_for from id octets) refl none
+  where
+    by : (test : Bool) → is_for from id octets ≡ test
+        → (if test then octets ∷ those_for from id frames else those_for from id frames) ≡ []
+        → (is_for from id octets ≡ false) × (those_for from id frames ≡ [])
+    by true its none = cc
+    by false other none = (other, none)
+
+pub none_of_link : (from : Side) (id : LinkId) (line : List Sent)
+    → those_for from id (octets_of line) ≡ [] → AreSent from id (λ at. ⊥) line
+none_of_link from id [] none = All-nil (λ (sent : Sent). is_for from id sent.octets ≡ true → ⊥)
+none_of_link from id (sent ∷ line) none =
+    let two = first_is_other from id sent.octets (octets_of line) none in
+    All-cons (λ (sent : Sent). is_for from id sent.octets ≡ true → ⊥) sent line
+    (λ its. (let no : false ≡ true = sym two.0 ∙ its in cc)) (none_of_link from id line two.1)
+
+pub any_moment : (from : Side) (id : LinkId) (P : ℕ → Type 0) (line : List Sent)
+    → AreSent from id (λ at. ⊥) line → AreSent from id P line
+any_moment from id P line none = All-weaker
+    (λ (sent : Sent). is_for from id sent.octets ≡ true → ⊥)
+    (λ (sent : Sent). is_for from id sent.octets ≡ true → P sent.at)
+    (λ sent impossible its. absurd (impossible its)) line none
 
 -- ---- One link, at a side and at the other.
 

@@ -1,5 +1,3 @@
 pub mod Clock
 pub mod InTime
-pub mod Buses
-pub mod Across
 pub mod Runs

@@ -7,14 +7,12 @@ use Rattle.lapd_timers.specs.Due.{last_moment}
 use Rattle.lapd_timers.specs.Durations.{standard_lengths}
 use Rattle.lapd_sides.specs.declared.request.Request.TheVariants as request
 use Rattle.lapd_sides.specs.Network.{new_network}
-use Rattle.lapd_sides.specs.User.{User, new_user}
+use Rattle.lapd_sides.specs.User.{new_user}
 use Rattle.lapd_sides.specs.Worked as sides
 use Rattle.lapd_sides_links.specs.declared.config.Config.{Config}
 use Rattle.lapd_side_events.specs.Interface.{Configs, Interface, Move, new_interface}
-use Rattle.lapd_side_events.specs.Bus.{BusEvent, OfTerminal, OfNetwork, connected}
-use Rattle.lapd_side_events.specs.SideView.{SideView, Take, Lose, Expire, Ask}
-use Rattle.lapd_two_side_laws.specs.Schedule.{by_user, by_network, call, configs}
-use Rattle.lapd_bus_laws.specs.Runs.{fixed_call, with_fixed_tei}
+use Rattle.lapd_side_events.specs.SideView.{Take, Lose, Expire, Ask}
+use Rattle.lapd_two_side_laws.specs.Schedule.{by_user, by_network, call}
 use Rattle.lapd_clock_laws.specs.InTime.{Premise, IsInOrder, IsInRange, IsPrompt, TakesFirst, IsWhenDue}
 
 -- T200 is 1 s, and each frame takes 500 ms at most
@@ -99,18 +97,3 @@ turned_back = by_user (Ask (request.Establish call) 0) ∷ by_network (Take 0) �
 abbrev pub at_the_end : List Move
 at_the_end = by_user (Ask (request.Establish call) last_moment)
     ∷ by_user (Expire T200 (Some call) last_moment) ∷ []
-
--- ---- A bus.
-
--- the first of two terminals with the fixed TEIs 0 and 1
-abbrev pub first_terminal : SideView User
-first_terminal = connected configs (with_fixed_tei 0 sides.random)
-
--- Each frame of the first terminal's link is in transit for 500 ms. The network overhears the SABME
--- of the second terminal, and its answer goes to both. A message is received and acknowledged.
-abbrev pub bus_at_half : Vec ℕ Global → List BusEvent
-bus_at_half message = OfTerminal 0 (Ask (request.Establish fixed_call) 0)
-    ∷ OfNetwork 0 (Take 500) ∷ OfTerminal 1 (Ask (request.Establish fixed_call) 600)
-    ∷ OfTerminal 0 (Take 1000) ∷ OfNetwork 1 (Take 1000)
-    ∷ OfTerminal 0 (Ask (request.Give fixed_call message) 1000) ∷ OfNetwork 0 (Take 1500)
-    ∷ OfTerminal 0 (Take 1500) ∷ OfTerminal 0 (Take 2000) ∷ []

@@ -1,20 +1,16 @@
 //! Worked runs by the clock. A call of a law does nothing.
 
-ghost use Rattle.std.specs.Prelude.{◌≡◌, [], ◌∷◌, ◌+◌, ◌*◌, ℕ, Some, Vec, slice_get};
+ghost use Rattle.std.specs.Prelude.{◌≡◌, [], ◌∷◌, ◌+◌, ◌*◌, ℕ, Vec};
 ghost use Rattle.std.specs.declared.alloc.Global.{Global};
 ghost use Rattle.lapd_sides_links.specs.declared.primitive.What.TheVariants as what;
-ghost use Rattle.lapd_bus_laws.specs.Links as bus;
-ghost use Rattle.lapd_bus_laws.specs.Runs.{fixed_call, two_fixed};
-ghost use Rattle.lapd_side_events.specs.Bus.{after_events, from_now, interface_of, moves_along};
-ghost use Rattle.lapd_side_events.specs.Interface.{from_here, run};
+ghost use Rattle.lapd_side_events.specs.Interface.{run};
 ghost use Rattle.lapd_two_side_laws.specs.Premises.{AreTimely, GiveTeiOnce};
 ghost use Rattle.lapd_two_side_laws.specs.Primitives.{link_primitives};
 ghost use Rattle.lapd_two_side_laws.specs.Projects.{IsReceivedByUser};
 ghost use Rattle.lapd_two_side_laws.specs.Schedule.{at_first, call, configs, IsMessage};
 ghost use Rattle.lapd_clock_laws.specs.Clock.{new_clock};
-ghost use Rattle.lapd_clock_laws.specs.Buses.{KeepsTei};
-ghost use Rattle.lapd_clock_laws.specs.InTime.{AreInTime, OverhearOthers, Throughout};
-ghost use Rattle.lapd_clock_laws.specs.Runs.{AllButInOrder, AllButInRange, AllButPrompt, AllButTakesFirst, AllButWhenDue, at_half, at_the_end, bus_at_half, first_terminal, half_of_t200, hasty_at, hurried, hurried_at_first, hurried_configs, turned_back};
+ghost use Rattle.lapd_clock_laws.specs.InTime.{AreInTime, Throughout};
+ghost use Rattle.lapd_clock_laws.specs.Runs.{AllButInOrder, AllButInRange, AllButPrompt, AllButTakesFirst, AllButWhenDue, at_half, at_the_end, half_of_t200, hasty_at, hurried, hurried_at_first, hurried_configs, turned_back};
 
 /// Half of T200 is reached: in a worked run frames are in transit for 500 ms, and T200 is 1 s.
 ///
@@ -30,29 +26,6 @@ pub fn half_of_t200_is_reached()
         ≡ what.Confirmed ∷ what.Acknowledged 1 ∷ [] }
     ensures to_network { (message : Vec ℕ Global) → IsMessage 1 message
         → link_primitives call (run configs (at_half message) at_first).delivered_to_network
-        ≡ what.Established ∷ what.Up (1 ∷ []) ∷ [] }
-{}
-
-/// The premises of a bus by the clock can be met, with T200 of 1 s and frames that are in transit
-/// for 500 ms.
-///
-/// Two terminals have fixed TEIs. The first establishes its link and submits a message, which is
-/// received and acknowledged. The network overhears the SABME of the second terminal meanwhile.
-pub fn bus_premises_in_time_can_be_met()
-    ensures terminal { slice_get two_fixed.terminals 0 ≡ Some first_terminal }
-    ensures keeps { (message : Vec ℕ Global) → IsMessage 1 message
-        → bus.Throughout configs (KeepsTei configs fixed_call 0) (bus_at_half message)
-        (from_now two_fixed) }
-    ensures others { (message : Vec ℕ Global) → IsMessage 1 message
-        → OverhearOthers fixed_call
-        (moves_along configs 0 (bus_at_half message) (from_now two_fixed)) }
-    ensures in_time { (message : Vec ℕ Global) → IsMessage 1 message
-        → AreInTime half_of_t200 configs fixed_call
-        (moves_along configs 0 (bus_at_half message) (from_now two_fixed))
-        (from_here (interface_of first_terminal two_fixed)) (new_clock 0) }
-    ensures to_network { (message : Vec ℕ Global) → IsMessage 1 message
-        → link_primitives fixed_call
-        (after_events configs (bus_at_half message) (from_now two_fixed)).delivered
         ≡ what.Established ∷ what.Up (1 ∷ []) ∷ [] }
 {}
 

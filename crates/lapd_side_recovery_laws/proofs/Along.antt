@@ -2,7 +2,7 @@
 -- one before in time.
 use Rattle.std.proofs.Common.{◌≡◌, ◌⊎◌, inl, inr, ℕ, ◌+◌, ◌≤◌, ◌<◌, List, [], ◌∷◌, ◌++◌, Option, true, false, Ok, refl, sym, ap, subst, ◌∙◌, arith}
 use Rattle.std.specs.Prelude.{is_ok}
-use Rattle.std.proofs.lemmas.List.Elements.{All-nil, All-append, All-cons}
+use Rattle.std.proofs.lemmas.List.Elements.{All-append}
 use Rattle.rand_pcg.specs.Lcg.{Lcg}
 use Rattle.lapd_frame.specs.declared.Side.{Side}
 use Rattle.lapd_frame.specs.declared.Side.TheVariants as side
@@ -35,11 +35,10 @@ use Rattle.lapd_two_side_laws.proofs.OneMove.{by_network_after, by_user_after}
 use Rattle.lapd_two_side_laws.proofs.OwnSides.{AreHeld, AreOwn}
 use Rattle.lapd_two_side_laws.proofs.Users.{of_user}
 use Rattle.lapd_two_side_laws.proofs.Whole.{IsOfRun, runs_are_closed}
-use Rattle.lapd_bus_laws.proofs.Lists.{none_first}
 use Rattle.lapd_clock_laws.specs.Clock.{Clock, Sent, clock_after, moment_of, sent_at, still_in_transit}
 use Rattle.lapd_clock_laws.specs.InTime.{AreSent, IsInTime, IsLongEnough, OfMove, OverhearsOthers}
 use Rattle.lapd_clock_laws.proofs.EveryRun.{move_keeps, move_timely, sent_by_then, sent_just_now}
-use Rattle.lapd_clock_laws.proofs.SideClocks.{all_still}
+use Rattle.lapd_clock_laws.proofs.SideClocks.{all_still, any_moment, none_of_link, sent_are}
 use Rattle.lapd_side_recovery_laws.specs.Counts.{are_in_step, is_t203_of, t203s_out_of_step}
 use Rattle.lapd_side_recovery_laws.specs.Quiet.{AreQuiet, HaveLink, IsQuiet, IsServed}
 use Rattle.lapd_side_recovery_laws.specs.Reached.{MeetPremises, RunAtMost, clock_of, created}
@@ -55,14 +54,9 @@ use Rattle.lapd_side_recovery_laws.proofs.Waiting.{Stands, next_in_time, waits}
 -- frames of other links
 others_sent : (from : Side) (id : LinkId) (latest now : ℕ) (frames : List (List ℕ))
     → those_for from id frames ≡ [] → AreSent from id (λ at. at ≤ latest) (sent_at now frames)
-others_sent from id latest now [] none =
-    All-nil (λ (sent : Sent). is_for from id sent.octets ≡ true → sent.at ≤ latest)
-others_sent from id latest now (octets ∷ frames) none =
-    let two = none_first (is_for from id) octets frames none in
-    All-cons (λ (sent : Sent). is_for from id sent.octets ≡ true → sent.at ≤ latest)
-    (record { octets = octets; at = now }) (sent_at now frames)
-    (λ its. (let no : false ≡ true = sym two.0 ∙ its in cc))
-    (others_sent from id latest now frames two.1)
+others_sent from id latest now frames none = any_moment from id (λ at. at ≤ latest)
+    (sent_at now frames) (none_of_link from id (sent_at now frames)
+    (ap (those_for from id) (sent_are now frames) ∙ none))
 
 both_sent : (from : Side) (id : LinkId) (latest : ℕ) (line more : List Sent)
     → AreSent from id (λ at. at ≤ latest) line → AreSent from id (λ at. at ≤ latest) more

@@ -13,7 +13,7 @@ use Rattle.lapd_two_side_laws.specs.Premises.{AreTimely, IsTimely}
 use Rattle.lapd_bus_laws.specs.Holdings.{KeepsHolding, LeavesAlone}
 use Rattle.lapd_bus_laws.specs.Links.{IsTimelyFor, Throughout}
 use Rattle.lapd_bus_laws.proofs.Followed.{one_event}
-use Rattle.lapd_clock_laws.specs.Buses.{HasLine, KeepsTei}
+use Rattle.lapd_clock_bus_laws.specs.Buses.{HasLine, KeepsTei}
 
 module _ (c : Configs) (id : LinkId) (i : ℕ) where
   timely_split : (ms ns : List Move) (k : Interface) → AreTimely c id (ms ++ ns) k

@@ -1,5 +1,5 @@
-use Rattle.lapd_clock_laws.proofs.RunsComputed.{bus_at_half_in_time, bus_at_half_kept, bus_at_half_so, first_is_there}
-use Rattle.lapd_clock_laws.proofs.runs.bus_premises_in_time_can_be_met.Goals as goal
+use Rattle.lapd_clock_bus_laws.proofs.BusComputed.{bus_at_half_in_time, bus_at_half_kept, bus_at_half_so, first_is_there}
+use Rattle.lapd_clock_bus_laws.proofs.buses.bus_premises_in_time_can_be_met.Goals as goal
 
 pub returns : goal.returns
 returns c = record {

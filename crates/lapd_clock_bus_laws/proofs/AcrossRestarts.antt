@@ -14,12 +14,12 @@ use Rattle.lapd_restart_laws.specs.RestartPremises.{KeepPremisesAsMade}
 use Rattle.lapd_restart_laws.specs.Restarts.{Change, Moves, NetworkRestarts, UserRestarts, changes, counting_on, link_after}
 use Rattle.lapd_restart_laws.specs.SafeAcross.{IsSafeAcross}
 use Rattle.lapd_restart_laws.proofs.AcrossAsMade.{made_safe_across}
-use Rattle.lapd_clock_laws.specs.Across.{AreInTimeAcross, KeepTeiAsMade, OverhearOthersAcross}
 use Rattle.lapd_clock_laws.specs.Clock.{Clock, Sent, clock_after, new_clock}
 use Rattle.lapd_clock_laws.specs.InTime.{IsLongEnough}
 use Rattle.lapd_clock_laws.proofs.EveryRun.{HoldsOfUser, move_keeps, move_timely, new_network_long, new_user_long, starts}
 use Rattle.lapd_clock_laws.proofs.LinkDeadlines.{RunsLong, t200_of}
 use Rattle.lapd_clock_laws.proofs.SideClocks.{IsAwaited}
+use Rattle.lapd_clock_bus_laws.specs.Across.{AreInTimeAcross, KeepTeiAsMade, OverhearOthersAcross}
 
 -- ---- A link after a restart.
 

@@ -1,5 +1,5 @@
-use Rattle.lapd_clock_laws.proofs.AcrossComputed.{restarts_in_time, restarts_so}
-use Rattle.lapd_clock_laws.proofs.restarts.restart_premises_in_time_can_be_met.Goals as goal
+use Rattle.lapd_clock_bus_laws.proofs.AcrossComputed.{restarts_in_time, restarts_so}
+use Rattle.lapd_clock_bus_laws.proofs.restarts.restart_premises_in_time_can_be_met.Goals as goal
 
 pub returns : goal.returns
 returns c = record {

@@ -14,10 +14,10 @@ ghost use Rattle.lapd_two_side_laws.specs.Primitives.{link_primitives};
 ghost use Rattle.lapd_two_side_laws.specs.Schedule.{at_first, call, configs, IsMessage};
 ghost use Rattle.lapd_restart_laws.specs.Restarts.{Change, run_across};
 ghost use Rattle.lapd_restart_laws.specs.SafeAcross.{IsSafeAcross};
-ghost use Rattle.lapd_clock_laws.specs.Across.{AreInTimeAcross, KeepTeiAsMade, OverhearOthersAcross, restarts_at_half};
 ghost use Rattle.lapd_clock_laws.specs.Clock.{new_clock};
 ghost use Rattle.lapd_clock_laws.specs.InTime.{IsLongEnough};
 ghost use Rattle.lapd_clock_laws.specs.Runs.{half_of_t200};
+ghost use Rattle.lapd_clock_bus_laws.specs.Across.{AreInTimeAcross, KeepTeiAsMade, OverhearOthersAcross, restarts_at_half};
 
 /// Every link between two sides is safe across restarts that leave the octets in transit, if its
 /// frames are in transit for at most half of T200.

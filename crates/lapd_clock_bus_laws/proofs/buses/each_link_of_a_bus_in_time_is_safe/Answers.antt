@@ -1,5 +1,5 @@
-use Rattle.lapd_clock_laws.proofs.Safe.{fixed_safe, holding_safe, terminal_safe}
-use Rattle.lapd_clock_laws.proofs.buses.each_link_of_a_bus_in_time_is_safe.Goals as goal
+use Rattle.lapd_clock_bus_laws.proofs.SafeOnBus.{fixed_safe, holding_safe, terminal_safe}
+use Rattle.lapd_clock_bus_laws.proofs.buses.each_link_of_a_bus_in_time_is_safe.Goals as goal
 
 pub returns : goal.returns
 returns c = record {

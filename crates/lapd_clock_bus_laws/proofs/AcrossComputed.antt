@@ -9,14 +9,14 @@ use Rattle.lapd_side_events.specs.Interface.{Configs, Interface}
 use Rattle.lapd_two_side_laws.specs.Primitives.{link_primitives}
 use Rattle.lapd_two_side_laws.specs.Schedule.{at_first, call, configs, IsMessage}
 use Rattle.lapd_two_side_laws.proofs.Computed.{Fits, holding, with_octets}
-use Rattle.lapd_restart_laws.specs.Restarts.{Change, Moves, NetworkRestarts, UserRestarts, changes, losses, run_across}
+use Rattle.lapd_two_side_laws.proofs.ComputedEvents.{computed_events}
 use Rattle.lapd_link_definition.proofs.Sending.{both_true}
-use Rattle.lapd_clock_laws.specs.Across.{AreInTimeAcross, IsChangeInTime, KeepTeiAsMade, OverhearOthersAcross, clock_across, restarts_at_half}
+use Rattle.lapd_restart_laws.specs.Restarts.{Change, Moves, NetworkRestarts, UserRestarts, changes, losses, run_across}
 use Rattle.lapd_clock_laws.specs.Clock.{Clock, new_clock}
 use Rattle.lapd_clock_laws.specs.InTime.{IsInTime}
 use Rattle.lapd_clock_laws.specs.Runs.{half_of_t200}
-use Rattle.lapd_clock_laws.proofs.RunsComputed.{whole_table}
 use Rattle.lapd_clock_laws.proofs.Tests.{in_time, in_time_so, move_so, of_move}
+use Rattle.lapd_clock_bus_laws.specs.Across.{AreInTimeAcross, IsChangeInTime, KeepTeiAsMade, OverhearOthersAcross, clock_across, restarts_at_half}
 
 module _ (longest : ℕ) (c : Configs) (id : LinkId) where
   abbrev change_passes : Change → Interface → Clock → Bool
@@ -55,7 +55,7 @@ pub record RestartsAtHalf (message : Vec ℕ Global) : Type 0 where
       ≡ what.Established ∷ what.Up (1 ∷ []) ∷ what.Report letter.F ∷ []
 
 restarts_hold : (v : Vec ℕ Global) (x : Fits v (1 ∷ [])) → RestartsAtHalf (holding v (1 ∷ []) x)
-unfolding whole_table losses
+unfolding computed_events losses
 restarts_hold v x = record {
   in_time = refl;
   others = (tt, (tt, (tt, (tt, (tt, (tt, (tt, (tt, (tt, (tt, tt))))))))));
