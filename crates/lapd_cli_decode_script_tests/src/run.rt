@@ -7,7 +7,7 @@ use lapd_cli_decode::{
 };
 use lapd_cli_script::ScriptFault;
 use lapd_port::{Port, Sink, Source};
-use lapd_test_scenario::{CommandWords, Commands, Run, refuses_script};
+use lapd_test_scenario::{CommandWords, Commands, Run};
 use std::alloc::Global;
 use std::io::{self, Read, Write};
 
@@ -30,8 +30,8 @@ impl Commands for Decode {
         }
     }
 
-    fn refuses(&self, alloc: Global, _: Script, words: CommandWords<'_>, line: &[u8]) -> bool {
-        refuses_script(alloc, self, words, line)
+    fn refuses_line(&self, _: Global, _: Script, _: &[u8]) -> Option<bool> {
+        None
     }
 }
 

@@ -11,7 +11,7 @@ use lapd_cli_values::{
     K, LINK_TEI, N200, Params, ROOM, Recovery, Sapi, Side, params_of, tei_written,
 };
 use lapd_port::{Port, Sink, Source};
-use lapd_test_scenario::{CommandWords, Commands, Run, refuses_script};
+use lapd_test_scenario::{CommandWords, Commands, Run};
 use std::alloc::Global;
 use std::io::{Read, Write};
 
@@ -47,8 +47,8 @@ impl Commands for LinkCommands {
         }
     }
 
-    fn refuses(&self, alloc: Global, _: Script, words: CommandWords<'_>, line: &[u8]) -> bool {
-        refuses_script(alloc, self, words, line)
+    fn refuses_line(&self, _: Global, _: Script, _: &[u8]) -> Option<bool> {
+        None
     }
 }
 

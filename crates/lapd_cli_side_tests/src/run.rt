@@ -11,7 +11,7 @@ use lapd_cli_values::{
 };
 use lapd_port::{Port, Sink, Source};
 use lapd_sides::{Config, Side, Tei};
-use lapd_test_scenario::{CommandWords, Commands, Run, refuses_script};
+use lapd_test_scenario::{CommandWords, Commands, Run};
 use std::alloc::Global;
 use std::io::{Read, Write};
 
@@ -36,11 +36,11 @@ impl Commands for SideCommands {
         }
     }
 
-    fn refuses(&self, alloc: Global, script: Script, words: CommandWords<'_>, line: &[u8]) -> bool {
+    fn refuses_line(&self, alloc: Global, script: Script, line: &[u8]) -> Option<bool> {
         match script {
-            Script::LiveNet => is_bad_live(alloc, Side::Network, line),
-            Script::LiveUser => is_bad_live(alloc, Side::User, line),
-            _ => refuses_script(alloc, self, words, line),
+            Script::LiveNet => Some(is_bad_live(alloc, Side::Network, line)),
+            Script::LiveUser => Some(is_bad_live(alloc, Side::User, line)),
+            _ => None,
         }
     }
 }

@@ -23,6 +23,7 @@ pub trait Commands {
         port: Port<S, K>,
     ) -> Run<S, K>;
 
-    /// Whether the command that reads this script refuses the line, and prints nothing for it.
-    fn refuses(&self, alloc: Global, script: Script, words: CommandWords<'_>, line: &[u8]) -> bool;
+    /// Whether a line is refused, for a script that `run` does not read, such as one of a side with
+    /// the real clock. `None` if `run` reads the script and decides.
+    fn refuses_line(&self, alloc: Global, script: Script, line: &[u8]) -> Option<bool>;
 }

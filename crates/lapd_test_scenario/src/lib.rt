@@ -24,7 +24,7 @@ pub use commands::{Commands, Run};
 pub use connections::to_itself;
 pub use examples::{Example, example_holds, example_passes};
 pub use memory::survives;
-pub use reasons::{lines_hold, refuses_script, typed_lines_hold};
+pub use reasons::{lines_hold, typed_lines_hold};
 pub use scenario::{Console, Line, Scenario};
 pub use tables::scenarios_hold;
 pub use trial::{Trial, row_passes};

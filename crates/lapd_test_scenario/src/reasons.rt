@@ -80,11 +80,14 @@ fn name_of(script: Script) -> &'static str {
 /// Whether a command refuses a line.
 fn is_bad<C: Commands>(alloc: Global, command: Command<'_, C>, line: &[u8]) -> bool {
     let (commands, script, words) = command;
-    commands.refuses(alloc, script, words, line)
+    match commands.refuses_line(alloc, script, line) {
+        Some(refuses) => refuses,
+        None => refuses_script(alloc, commands, words, line),
+    }
 }
 
 /// Whether the command of these words refuses a script of this line, and prints nothing.
-pub fn refuses_script<C: Commands>(
+fn refuses_script<C: Commands>(
     alloc: Global,
     commands: &C,
     words: CommandWords<'_>,
