@@ -156,9 +156,7 @@ pub fn print_violation(rt: &HostRuntime) -> ExitCode {
 fn print_refusal(rt: &HostRuntime, ending: &Ending<'_>) {
     if ending.strict && !ending.refusal.is_empty() {
         let _ = eprintln!(rt; "a line of the script was refused");
-        // A line that is not UTF-8 is not printed.
-        let refusal = str::from_utf8(ending.refusal).unwrap_or("");
-        let _ = eprintln!(rt; "first refusal: {refusal}");
+        let _ = eprintln!(rt; "first refusal: {}", text_of(ending.refusal));
     }
 }
 
@@ -201,13 +199,7 @@ fn print_no_taps(rt: &HostRuntime, ending: &Ending<'_>, taps: &NoTaps) -> ExitCo
         NoTaps::Ladder(fault) => {
             return print_no_output(rt, "ladder", ladder.unwrap_or(""), fault);
         }
-        NoTaps::SameFile => {
-            let file = Escaped(ladder.unwrap_or(""));
-            let _ = eprintln!(rt;
-                "error: --pcap and --ladder name the same file {file}; name two files"
-            );
-            return ExitCode::from(COMMAND_LINE);
-        }
+        NoTaps::SameFile => return print_same_file(rt, ladder.unwrap_or("")),
         NoTaps::Socket(error) => print_unreachable(rt, "send to", gsmtap.unwrap_or(""), error),
         NoTaps::Memory => return print_memory(rt),
     }
@@ -223,6 +215,13 @@ fn print_no_output(rt: &HostRuntime, option: &str, file: &str, fault: &NoFile) -
         }
         NoFile::Protected(protection) => print_protected(rt, option, file, *protection),
     }
+}
+
+// Reports that the capture and the ladder have the same file.
+fn print_same_file(rt: &HostRuntime, file: &str) -> ExitCode {
+    let file = Escaped(file);
+    let _ = eprintln!(rt; "error: --pcap and --ladder name the same file {file}; name two files");
+    ExitCode::from(COMMAND_LINE)
 }
 
 /// Reports that the file of this option must not be overwritten, and what to do.
@@ -249,6 +248,11 @@ pub fn print_protected(
         }
     };
     ExitCode::from(COMMAND_LINE)
+}
+
+// A printed line as text; empty if it is not UTF-8.
+fn text_of(line: &[u8]) -> &str {
+    str::from_utf8(line).unwrap_or("")
 }
 
 /// Reports that an allocation failed before the script began.

@@ -154,7 +154,7 @@ fn run_answer<R: Read, W: Write>(
     answer(rt.alloc(), script, out, side, sapi, tei, params)
 }
 
-// Executes a script of lines with octets. Loose lines are read as a log.
+// Executes a script of lines with octets.
 fn run_decode<R: Read, W: Write>(
     rt: &HostRuntime,
     chosen: &Invocation<'_>,
@@ -177,11 +177,7 @@ fn run_decode<R: Read, W: Write>(
             keeps_going: options.keep_going,
             follow: follow_of(options),
         };
-        return if options.loose {
-            run_log(rt, chosen, script, out, how, options)
-        } else {
-            run_lines(rt, script, out, how, chosen.strict)
-        };
+        return run_any_lines(rt, chosen, script, out, how, options);
     }
     let ended = if options.keep_going {
         decode_good_lines(rt.alloc(), script, out, frames.style, rt.stderr())
@@ -193,7 +189,23 @@ fn run_decode<R: Read, W: Write>(
     ended.map_err(Stop::Script)
 }
 
-/// Executes a script of lines with octets, if not all are printed or links are followed.
+// Executes a script of lines with octets in this form. Loose lines are read as a log.
+fn run_any_lines<R: Read, W: Write>(
+    rt: &HostRuntime,
+    chosen: &Invocation<'_>,
+    script: &mut R,
+    out: &mut W,
+    how: LinesStyle,
+    options: DecodeOptions,
+) -> Result<(), Stop> {
+    match how.form {
+        LineForm::Strict => run_lines(rt, script, out, how, chosen.strict),
+        LineForm::Loose(_) | LineForm::Timed(_) => run_log(rt, chosen, script, out, how, options),
+    }
+}
+
+/// Executes a script of lines with octets, if they are loose, not all are printed or links are
+/// followed.
 ///
 /// # Errors
 ///

@@ -64,10 +64,14 @@ fn for_input<'a>(rt: &HostRuntime, chosen: Invocation<'a>) -> Invocation<'a> {
 
 // Runs the chosen job. Its output is written to standard output, or to a file.
 fn run_chosen(rt: &HostRuntime, chosen: &Invocation<'_>) -> ExitCode {
-    let output = match output_of(rt, chosen) {
-        Ok(output) => output,
-        Err(status) => return status,
-    };
+    match output_of(rt, chosen) {
+        Ok(output) => run_output(rt, chosen, output),
+        Err(status) => status,
+    }
+}
+
+// Runs the chosen job with this output.
+fn run_output(rt: &HostRuntime, chosen: &Invocation<'_>, output: Output<'_>) -> ExitCode {
     match &chosen.job {
         Job::Decode(options) => run_decode(rt, chosen, *options, output),
         _ => run_lines(rt, chosen, output),
@@ -143,7 +147,7 @@ pub fn run_script<R: Read + Drop>(
     let refusals = watched.into_inner();
     let ending = Ending {
         file,
-        is_loose: matches!(&chosen.job, Job::Decode(options) if options.loose),
+        is_loose: is_loose(&chosen.job),
         report: FaultReport {
             script: script_of(&chosen.job, &chosen.clock),
             line: bad_line(&recent, &ended),
@@ -159,6 +163,14 @@ pub fn run_script<R: Read + Drop>(
     let status = print_ending(rt, &ending, &ended);
     let is_read = matches!(ended, Ok(()) | Err(Stop::Violated));
     close_output(rt, refusals.into_inner(), text, name, is_read, status)
+}
+
+// Whether the job reads lines of more forms.
+fn is_loose(job: &Job) -> bool {
+    match job {
+        Job::Decode(options) => options.loose,
+        _ => false,
+    }
 }
 
 // Runs the chosen job, between the beginning and the end of its text.

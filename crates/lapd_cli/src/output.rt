@@ -27,7 +27,7 @@ pub struct Output<'a> {
 }
 
 /// What a job's text is.
-#[derive(Clone, Copy)]
+#[derive(Clone, Copy, PartialEq, Eq)]
 pub enum Text {
     /// Lines.
     Lines,
@@ -113,16 +113,22 @@ impl Write for Destination<'_> {
 
 /// Standard output as the output of a job, or the table of the calls in its frames.
 pub fn printed_output(rt: &HostRuntime, chosen: &Invocation<'_>) -> Output<'static> {
-    let writer = match &chosen.job {
-        Job::Decode(options) if matches!(options.layout, PrintedLayout::Calls) => {
-            Destination::Calls(RecordCalls::new(rt.alloc()))
-        }
+    let writer = match layout_of(chosen) {
+        PrintedLayout::Calls => Destination::Calls(RecordCalls::new(rt.alloc())),
         _ => Destination::Standard(rt.stdout()),
     };
     Output {
         writer,
         text: Text::Lines,
         name: OUTPUT_NAME,
+    }
+}
+
+// The layout of the chosen job.
+fn layout_of(chosen: &Invocation<'_>) -> PrintedLayout {
+    match &chosen.job {
+        Job::Decode(options) => options.layout,
+        _ => PrintedLayout::Lines,
     }
 }
 
@@ -183,12 +189,12 @@ fn protection_by_inputs(
 
 /// Writes the beginning of a text, and so makes its file. Returns whether the writer did not fail.
 pub fn begin_text<W: Write>(text: Text, out: &mut W) -> bool {
-    matches!(text, Text::Lines) || out.write_all(text.begin()).is_ok() && out.flush().is_ok()
+    text == Text::Lines || out.write_all(text.begin()).is_ok() && out.flush().is_ok()
 }
 
 /// Writes the end of a text. Returns whether the writer did not fail.
 pub fn end_text<W: Write>(text: Text, out: &mut W) -> bool {
-    matches!(text, Text::Lines) || out.write_all(text.end()).is_ok() && out.flush().is_ok()
+    text == Text::Lines || out.write_all(text.end()).is_ok() && out.flush().is_ok()
 }
 
 /// Ends the output of this text after a job that ended with this status. A file replaces another

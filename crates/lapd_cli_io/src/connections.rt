@@ -16,7 +16,7 @@ use crate::shared_bus::{BusSetup, ForeignUse, SharedBus};
 use lapd_cli_notes::{Notes, connection};
 use lapd_cli_script::port_reason;
 use lapd_cli_wire::{
-    Audits, Impairment, Incident, Lines, MOST_RECEIVED, Outside, Sending, Woken, is_reached,
+    Impairment, Incident, Lines, MOST_RECEIVED, Outside, Sending, Woken, is_reached,
 };
 use lapd_frame::Side;
 use lapd_port::PortFault;
@@ -529,17 +529,13 @@ impl Outside for Connections<'_> {
 
     fn note(&mut self, incident: Incident) {
         match incident {
-            Incident::Discarded { sapi, tei } => self.note_discarded(LinkId { sapi, tei }),
-            Incident::Unanswered => self.drop_silent(),
+            Incident::Discarded(id) => self.note_discarded(id),
+            Incident::Unanswered(_) => self.drop_silent(),
             Incident::NotChecked => self.notes.print(NOT_CHECKED),
             Incident::NotRemoved => self.notes.print(NOT_REMOVED),
         }
     }
 
-    fn impair(&mut self, _impairment: Impairment) {}
-}
-
-impl Audits<Assigner, LinkTable, AuditStep> for Connections<'_> {
     fn next_audit(&mut self, assigner: &Assigner, links: &LinkTable) -> Option<AuditStep> {
         let now = self.clock.latest();
         match &mut self.bus {
@@ -547,4 +543,6 @@ impl Audits<Assigner, LinkTable, AuditStep> for Connections<'_> {
             None => None,
         }
     }
+
+    fn impair(&mut self, _impairment: Impairment) {}
 }

@@ -13,10 +13,9 @@ use crate::executed::Executed;
 use crate::fault::LiveFault;
 use crate::live_side::LiveSide;
 use crate::service::EndReason;
-use crate::surroundings::Surroundings;
 use crate::typed_lines::TypedLines;
 use lapd_cli_script::{LineFault, ScriptFault, is_passed_over};
-use lapd_cli_wire::Lines;
+use lapd_cli_wire::{Lines, Outside};
 use std::alloc::{AllocError, Global};
 use std::io::{ErrorKind, Read, Write};
 
@@ -107,13 +106,13 @@ pub(crate) enum TypedAction {
 /// If the octets of the script are known, as in memory, `Ok` means that all its lines were
 /// executed. Each `expect` has then found a line that begins with its words, printed in time, or
 /// before, while a line of input was awaited. Each `impair` has set exactly what it names, if the
-/// surroundings know how their frames are impaired ([`Surroundings`]).
+/// surroundings know how their frames are impaired ([`Outside`]).
 ///
 /// # Errors
 ///
 /// `BadLine` at the first line that is not a line of the side, `Unmet`, `Device`, `Memory` and
 /// `Port`.
-pub fn live_script<R: Read, O: Surroundings, W: Write>(
+pub fn live_script<R: Read, O: Outside, W: Write>(
     alloc: Global,
     mut live: LiveSide<O, W>,
     script: &mut R,
@@ -139,7 +138,7 @@ pub fn live_script<R: Read, O: Surroundings, W: Write>(
 /// # Errors
 ///
 /// `Device` if a read of the lines or a write fails, `Memory` and `Port`.
-pub fn live_session<R: Read, P: Console, O: Surroundings, W: Write>(
+pub fn live_session<R: Read, P: Console, O: Outside, W: Write>(
     alloc: Global,
     mut live: LiveSide<O, W>,
     lines: &mut R,
@@ -159,7 +158,7 @@ pub fn live_session<R: Read, P: Console, O: Surroundings, W: Write>(
 }
 
 /// Runs a side on a script.
-fn run_script<R: Read, O: Surroundings, W: Write>(
+fn run_script<R: Read, O: Outside, W: Write>(
     alloc: Global,
     live: &mut LiveSide<O, W>,
     script: &mut R,
@@ -185,7 +184,7 @@ fn run_script<R: Read, O: Surroundings, W: Write>(
 }
 
 /// Executes the complete lines of a script.
-fn run_script_lines<O: Surroundings, W: Write>(
+fn run_script_lines<O: Outside, W: Write>(
     live: &mut LiveSide<O, W>,
     lines: &mut TypedLines,
     number: &mut u64,
@@ -203,7 +202,7 @@ fn run_script_lines<O: Surroundings, W: Write>(
 }
 
 /// Counts a line of a script, and executes it unless it is skipped.
-fn run_script_line<O: Surroundings, W: Write>(
+fn run_script_line<O: Outside, W: Write>(
     live: &mut LiveSide<O, W>,
     line: &[u8],
     number: &mut u64,
@@ -226,7 +225,7 @@ fn run_script_line<O: Surroundings, W: Write>(
 }
 
 /// Runs a side on typed lines.
-fn converse<R: Read, P: Console, O: Surroundings, W: Write>(
+fn converse<R: Read, P: Console, O: Outside, W: Write>(
     alloc: Global,
     live: &mut LiveSide<O, W>,
     lines: &mut R,
@@ -257,7 +256,7 @@ fn converse<R: Read, P: Console, O: Surroundings, W: Write>(
 }
 
 /// Executes the complete typed lines. Returns `false` if one of them ends the session.
-fn run_typed_lines<P: Console, O: Surroundings, W: Write>(
+fn run_typed_lines<P: Console, O: Outside, W: Write>(
     live: &mut LiveSide<O, W>,
     typed: &mut TypedLines,
     console: &mut P,
@@ -279,7 +278,7 @@ fn run_typed_lines<P: Console, O: Surroundings, W: Write>(
 }
 
 /// Executes the last line, if it lacks its line feed. Returns `false` if it ends the session.
-fn run_last<P: Console, O: Surroundings, W: Write>(
+fn run_last<P: Console, O: Outside, W: Write>(
     live: &mut LiveSide<O, W>,
     line: &[u8],
     console: &mut P,
@@ -295,7 +294,7 @@ fn run_last<P: Console, O: Surroundings, W: Write>(
 }
 
 /// Executes a typed line. Returns `false` if it ends the session.
-fn run_typed<P: Console, O: Surroundings, W: Write>(
+fn run_typed<P: Console, O: Outside, W: Write>(
     live: &mut LiveSide<O, W>,
     line: &[u8],
     console: &mut P,
@@ -336,7 +335,7 @@ pub(crate) fn typed_action(line: &[u8]) -> TypedAction
 }
 
 /// Executes a line of a console, or reports why it is not a line of the side.
-fn obey_typed<P: Console, O: Surroundings, W: Write>(
+fn obey_typed<P: Console, O: Outside, W: Write>(
     live: &mut LiveSide<O, W>,
     line: &[u8],
     console: &mut P,
@@ -355,7 +354,7 @@ fn obey_typed<P: Console, O: Surroundings, W: Write>(
 }
 
 /// Runs the side until the connection is closed, if `serve_on` is set.
-fn serve_to_end<O: Surroundings, W: Write>(
+fn serve_to_end<O: Outside, W: Write>(
     live: &mut LiveSide<O, W>,
     serve_on: bool,
 ) -> Result<(), LiveFault>

@@ -7,16 +7,15 @@ use crate::executed::Executed;
 use crate::fault::LiveFault;
 use crate::live_side::LiveSide;
 use crate::service::{EndReason, Service, Until};
-use crate::surroundings::Surroundings;
 use lapd_cli_live_text::{
     LiveLine, awaited_line, awaited_text, push_link, push_management, read_live_line,
 };
 use lapd_cli_script::LineFault;
-use lapd_cli_wire::{Impairment, Lines};
+use lapd_cli_wire::{Impairment, Lines, Outside};
 use lapd_sides::{EitherSide, LinkId, SideKind, Tei};
 use std::io::Write;
 
-impl<O: Surroundings, W: Write> LiveSide<O, W> {
+impl<O: Outside, W: Write> LiveSide<O, W> {
     ghost use Rattle.lapd_cli_live.specs.Log.{Between};
     ghost use Rattle.lapd_cli_live.specs.StateLines.{PutsManagement, PutsState, StateEach, StatesAll, StatesCounts, StatesLink};
     ghost use Rattle.lapd_cli_live.specs.LineDone.{ExpectDone, FindsLine, HasOwnTei, begun, impaired_as};

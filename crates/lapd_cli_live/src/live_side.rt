@@ -13,12 +13,11 @@ ghost use Rattle.lapd_cli_live.specs.Steps.{end_by_wait as end_of_wait, ended_by
 use crate::fault::LiveFault;
 use crate::printer::Printer;
 use crate::service::{EndReason, Service, Until};
-use crate::surroundings::Surroundings;
 use lapd_cli_script::LineFault;
-use lapd_cli_wire::{Incident, Lines, MOST_RECEIVED, Woken, is_reached};
+use lapd_cli_wire::{Incident, Lines, MOST_RECEIVED, Outside, Woken, is_reached};
 use lapd_frame::{Frame, FrameFault, Side, read};
 use lapd_port::PortFault;
-use lapd_sides::{Acts, EitherSide, FrameOctets, Letter, Primitive, Request, What};
+use lapd_sides::{Acts, EitherSide, FrameOctets, Letter, LinkId, Primitive, Request, What};
 use lapd_tei_audit::AuditStep;
 use lapd_timers::earlier;
 use std::alloc::Global;
@@ -50,7 +49,7 @@ pub struct LiveSide<O, W> {
     pub(crate) most: u64,
 }
 
-impl<O: Surroundings, W: Write> LiveSide<O, W> {
+impl<O: Outside, W: Write> LiveSide<O, W> {
     ghost use Rattle.lapd_cli_live.specs.Log.{Between, HappenBeside, IsCarriedOut, ReadsClock, Shows};
     ghost use Rattle.lapd_cli_live.specs.Steps.{CatchesUp, DoesDue, EndsAfter, HasReceived, IsAsked, IsAskedFirst, IsExecuted, IsForAudit, IsServed, Looks, Proceeds, Step, TakesAt, WaitsFor, connection_lost, loss_events};
 
@@ -141,8 +140,8 @@ impl<O: Surroundings, W: Write> LiveSide<O, W> {
     fn note_unanswered(&mut self)
         ensures { Between O.io_events O.impaired_by W.contents self.old self.new (λ a b. b ≡ a) }
     {
-        if is_unanswered(self.acts.primitives()) {
-            self.outside.note(Incident::Unanswered);
+        if let Some(id) = unanswered(self.acts.primitives()) {
+            self.outside.note(Incident::Unanswered(id));
         }
     }
 
@@ -245,7 +244,7 @@ impl<O: Surroundings, W: Write> LiveSide<O, W> {
     ///
     /// # Errors
     ///
-    /// Those of [`Surroundings`], `Device` and `Memory`.
+    /// Those of [`Outside`], `Device` and `Memory`.
     pub fn ask(&mut self, request: Request) -> Result<(), LiveFault>
         ensures { OnOk result
             (Between O.io_events O.impaired_by W.contents self.old self.new (IsAsked request)) }
@@ -262,7 +261,7 @@ impl<O: Surroundings, W: Write> LiveSide<O, W> {
     ///
     /// # Errors
     ///
-    /// Those of [`Surroundings`], `Device` and `Memory`.
+    /// Those of [`Outside`], `Device` and `Memory`.
     pub fn ask_first(&mut self, request: Request) -> Result<(), LiveFault>
         ensures { OnOk result (Between O.io_events O.impaired_by W.contents self.old self.new
             (IsAskedFirst request)) }
@@ -394,7 +393,7 @@ impl<O: Surroundings, W: Write> LiveSide<O, W> {
     ///
     /// # Errors
     ///
-    /// Those of [`Surroundings`], `Device` and `Memory`.
+    /// Those of [`Outside`], `Device` and `Memory`.
     pub fn serve(&mut self, service: Service) -> Result<EndReason, LiveFault>
         ensures { IfOk result (λ end_reason.
             Between O.io_events O.impaired_by W.contents self.old self.new
@@ -410,7 +409,7 @@ impl<O: Surroundings, W: Write> LiveSide<O, W> {
 }
 
 /// Reports that a frame of the other side was discarded, if it was and it names a link.
-fn report_discarded<O: Surroundings>(
+fn report_discarded<O: Outside>(
     is_discarded: bool,
     frame: &Result<Frame<'_>, FrameFault>,
     outside: &mut O,
@@ -421,23 +420,23 @@ fn report_discarded<O: Surroundings>(
     match frame {
         Ok(frame) if is_discarded => {
             let address = frame.address();
-            outside.note(Incident::Discarded {
+            outside.note(Incident::Discarded(LinkId {
                 sapi: address.sapi,
                 tei: address.tei,
-            });
+            }));
         }
         _ => {}
     }
 }
 
-/// Whether the other side did not answer the SABME or DISC of a link.
-fn is_unanswered(primitives: &[Primitive]) -> bool {
+/// The first link whose SABME or DISC the other side did not answer.
+fn unanswered(primitives: &[Primitive]) -> Option<LinkId> {
     for primitive in primitives {
-        if let Primitive::Of(_, What::Report(Letter::G | Letter::H)) = primitive {
-            return true;
+        if let Primitive::Of(id, What::Report(Letter::G | Letter::H)) = primitive {
+            return Some(*id);
         }
     }
-    false
+    None
 }
 
 /// The incident of a request to all terminals that sends nothing.
@@ -461,7 +460,7 @@ fn request_of(step: AuditStep) -> Request
 }
 
 /// Sends these frames, and prints each once it is sent.
-fn send_all<O: Surroundings, W: Write>(
+fn send_all<O: Outside, W: Write>(
     own: Side,
     frames: &[FrameOctets],
     outside: &mut O,

@@ -3,9 +3,10 @@
 ghost use Rattle.std.specs.Prelude.{◌≤◌, IfOk};
 
 use crate::typed::Reads;
-use lapd_cli_live::{Audits, Impairment, Incident, Lines, MOST_RECEIVED, Outside, Sending, Woken};
+use lapd_cli_live::{Impairment, Incident, Lines, MOST_RECEIVED, Outside, Sending, Woken};
 use lapd_port::PortFault;
-use lapd_table::{LinkTable, Sapi, Tei};
+use lapd_sides::LinkId;
+use lapd_table::LinkTable;
 use lapd_tei::Assigner;
 use lapd_tei_audit::AuditStep;
 use lapd_timers::earlier;
@@ -231,7 +232,9 @@ impl<'s> Made<'s> {
     }
 
     /// Records that a frame of this link was discarded.
-    fn record_discarded(&mut self, sapi: Sapi, tei: Tei) -> Result<(), AllocError> {
+    fn record_discarded(&mut self, id: LinkId) -> Result<(), AllocError> {
+        let sapi = id.sapi;
+        let tei = id.tei;
         write!(self.lines_printed, "discarded {sapi} {tei}\n")
     }
 
@@ -326,19 +329,17 @@ impl Outside for Made<'_> {
     }
 
     fn note(&mut self, incident: Incident) {
-        if let Incident::Discarded { sapi, tei } = incident {
-            let _ = self.record_discarded(sapi, tei);
+        if let Incident::Discarded(id) = incident {
+            let _ = self.record_discarded(id);
         }
+    }
+
+    fn next_audit(&mut self, _assigner: &Assigner, _links: &LinkTable) -> Option<AuditStep> {
+        None
     }
 
     fn impair(&mut self, impairment: Impairment) {
         self.is_all_lost = impairment.loss == 100;
         let _ = self.record_impairment(impairment);
-    }
-}
-
-impl Audits<Assigner, LinkTable, AuditStep> for Made<'_> {
-    fn next_audit(&mut self, _assigner: &Assigner, _links: &LinkTable) -> Option<AuditStep> {
-        None
     }
 }

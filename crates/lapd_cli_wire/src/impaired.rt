@@ -5,8 +5,11 @@ ghost use Rattle.lapd_port.specs.SocketText.{IsFrameLength};
 
 use crate::delays::Delays;
 use crate::impairment::Impairment;
-use crate::outside::{Audits, Incident, Lines, MOST_RECEIVED, Outside, Sending, Woken, is_reached};
+use crate::outside::{Incident, Lines, MOST_RECEIVED, Outside, Sending, Woken, is_reached};
 use lapd_port::PortFault;
+use lapd_table::LinkTable;
+use lapd_tei::Assigner;
+use lapd_tei_audit::AuditStep;
 use lapd_timers::earlier;
 use std::alloc::Global;
 
@@ -173,17 +176,15 @@ impl<O: Outside> Outside for Impaired<O> {
         self.inner.note(incident);
     }
 
+    fn next_audit(&mut self, assigner: &Assigner, links: &LinkTable) -> Option<AuditStep> {
+        self.inner.next_audit(assigner, links)
+    }
+
     fn impair(&mut self, impairment: Impairment)
         ensures inner { self.new.inner ≡ self.old.inner }
         ensures impairment { self.new.delays
             ≡ record (self.old.delays) { impairment = impairment } }
     {
         self.delays.impairment = impairment;
-    }
-}
-
-impl<O: Audits<Held, Links, Step>, Held, Links, Step> Audits<Held, Links, Step> for Impaired<O> {
-    fn next_audit(&mut self, held: &Held, links: &Links) -> Option<Step> {
-        self.inner.next_audit(held, links)
     }
 }

@@ -6,8 +6,10 @@ ghost use Rattle.lapd_cli_wire.specs.IoEvents.{Adds, IoEvent, Reads, Sends, Wait
 ghost use Rattle.lapd_cli_wire.specs.declared.impairment.Impairment.{Impairment as ImpairmentValue};
 
 use crate::impairment::Impairment;
-use lapd_frame::{Sapi, Tei};
 use lapd_port::{MOST_OCTETS, PortFault};
+use lapd_table::{LinkId, LinkTable};
+use lapd_tei::Assigner;
+use lapd_tei_audit::AuditStep;
 
 /// The most octets that are kept of a received frame: one more than the longest valid frame has. A
 /// longer frame has the fault of its first 265 octets (Q.921 5.8.5, 5.9.3).
@@ -51,9 +53,9 @@ pub enum Sending {
 #[derive(Clone, Copy)]
 pub enum Incident {
     /// It discarded a frame: it has no link with this SAPI and TEI.
-    Discarded { sapi: Sapi, tei: Tei },
-    /// The other side answered no SABME or DISC of a link, N200 + 1 times (report G or H).
-    Unanswered,
+    Discarded(LinkId),
+    /// The other side answered no SABME or DISC of this link, N200 + 1 times (report G or H).
+    Unanswered(LinkId),
     /// A check of all TEIs had no effect: a check is in progress.
     NotChecked,
     /// A removal of all TEIs had no effect: the side holds a TEI.
@@ -128,22 +130,17 @@ pub trait Outside {
         ensures io_events { io_events self.new ≡ io_events self.old }
         ensures impaired_by { impaired_by self.new ≡ impaired_by self.old };
 
+    /// The next step of an audit of the TEIs of a network side (Q.921 5.3.3), which holds these TEIs
+    /// and has these links. `None` if there is nothing to do at the moment, or no audit.
+    fn next_audit(&mut self, assigner: &Assigner, links: &LinkTable) -> Option<AuditStep>
+        ensures io_events { io_events self.new ≡ io_events self.old }
+        ensures impaired_by { impaired_by self.new ≡ impaired_by self.old };
+
     /// Loses this share of the sent frames from now on, and delays the others.
     fn impair(&mut self, impairment: Impairment)
         ensures io_events { io_events self.new ≡ io_events self.old }
         ensures impaired_by { impaired_by self.new
             ≡ option_map (λ _. impairment) (impaired_by self.old) };
-}
-
-/// Surroundings that audit the TEIs of a network side (Q.921 5.3.3). `Held` has the TEIs that the
-/// side holds, `Links` its links, and a `Step` is what the side has to do next. Only the ends of the
-/// line know these types; a line between them forwards the call.
-pub trait Audits<Held, Links, Step>: Outside {
-    /// The next step of an audit of a side that holds these TEIs and has these links. `None` if
-    /// there is nothing to do at the moment, or no audit.
-    fn next_audit(&mut self, held: &Held, links: &Links) -> Option<Step>
-        ensures io_events { Self.io_events self.new ≡ Self.io_events self.old }
-        ensures impaired_by { Self.impaired_by self.new ≡ Self.impaired_by self.old };
 }
 
 /// Whether there is such a moment and it is reached at the time `now`.

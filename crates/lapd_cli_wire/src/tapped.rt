@@ -5,9 +5,12 @@ ghost use Rattle.lapd_cli_wire.specs.IoEvents.{Adds, IoEvent};
 ghost use Rattle.lapd_cli_wire.specs.Passed.{ArePassed, PassedFrame, passed_more, passed_frame};
 
 use crate::impairment::Impairment;
-use crate::outside::{Audits, Incident, Lines, MOST_RECEIVED, Outside, Sending, Woken};
+use crate::outside::{Incident, Lines, MOST_RECEIVED, Outside, Sending, Woken};
 use lapd_frame::Side;
 use lapd_port::PortFault;
+use lapd_table::LinkTable;
+use lapd_tei::Assigner;
+use lapd_tei_audit::AuditStep;
 
 /// Receives a copy of each frame of a line, such as a capture file or a socket. It reports its own
 /// errors, and the line continues without it.
@@ -96,14 +99,11 @@ impl<O: Outside, T: Tap> Outside for Tapped<O, T> {
         self.inner.note(incident);
     }
 
+    fn next_audit(&mut self, assigner: &Assigner, links: &LinkTable) -> Option<AuditStep> {
+        self.inner.next_audit(assigner, links)
+    }
+
     fn impair(&mut self, impairment: Impairment) {
         self.inner.impair(impairment);
-    }
-}
-
-impl<O: Audits<Held, Links, Step>, T: Tap, Held, Links, Step> Audits<Held, Links, Step>
-    for Tapped<O, T> {
-    fn next_audit(&mut self, held: &Held, links: &Links) -> Option<Step> {
-        self.inner.next_audit(held, links)
     }
 }

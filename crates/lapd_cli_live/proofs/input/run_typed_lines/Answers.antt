@@ -1,14 +1,5 @@
-use Rattle.std.proofs.Common.{[], refl}
-use Rattle.lapd_cli_live.specs.Sessions.{session_of}
-use Rattle.lapd_cli_live.proofs.Sessions.{first_held, quiet_can, types_next, types_quit}
+use Rattle.lapd_cli_live.proofs.Sessions.{first_held, types_next, types_quit}
 use Rattle.lapd_cli_live.proofs.input.run_typed_lines.Goals as goal
-
-pub loop-line-init : goal.loop-line-init
-loop-line-init g c =
-    let begun =
-    session_of g.O.Outside.io_events g.O.Outside.impaired_by g.W.Write.contents
-    g.P.Console.reported c.args.live.now c.args.console.now in
-    (0, record { lines = []; taken = λ more. refl; counted = refl; done = quiet_can.none begun })
 
 pub returns-then-not-branch : goal.returns-then-not-branch
 returns-then-not-branch g c =
