@@ -44,8 +44,8 @@ static const char help[] =
 	"standard output. SIGINT and SIGTERM print them and end the program, with status 0. The status\n"
 	"is 1 if a line cannot be opened, or --list finds none, and 2 if the words are wrong.\n"
 	"\n"
-	"  lapd net --pri --clock real --listen 127.0.0.1:4000 &\n"
-	"  lapd-line dahdi:16 --connect 127.0.0.1:4000\n";
+	"  lapd-line dahdi:16 --listen :4000 &\n"
+	"  lapd user --pri --clock real --connect :4000\n";
 
 /* A D channel, and the connection in its place. */
 struct bridge {

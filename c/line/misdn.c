@@ -51,7 +51,6 @@ struct device {
 	char name[20];
 };
 
-#define GET_COUNT _IOR('I', 67, int)
 #define GET_DEVICE _IOR('I', 68, int)
 
 #define CONFIRM_WAIT 1000 /* milliseconds; a frame of 300 octets takes 150 at 16 kbit/s */
@@ -318,8 +317,11 @@ static ssize_t read_datagram(lapd_line *line, uint8_t *octets)
 	while (got < 0 && errno == EINTR);
 	if (got < 0 && errno == EAGAIN)
 		return 0;
+	if (got != 0)
+		return got;
 	/* The kernel returns 0 for a device that was removed. */
-	return got == 0 ? (errno = ENODEV, -1) : got;
+	errno = ENODEV;
+	return -1;
 }
 
 static enum lapd_line_event misdn_receive(lapd_line *line, uint8_t *frame, size_t *length)

@@ -122,21 +122,26 @@ static bool open_listener(lapd_line *line, const struct addrinfo *address)
 	return true;
 }
 
-/* HOST:PORT, where HOST may be an IPv6 address in brackets. */
-static bool find_addresses(lapd_line *line, char *words, struct addrinfo **found)
+/* HOST:PORT, where HOST may be an IPv6 address in brackets. As with `lapd`, no host is this one, or
+ * all its IPv4 addresses to listen at. */
+static bool find_addresses(lapd_line *line, char *words, bool listens, struct addrinfo **found)
 {
 	struct addrinfo wanted = { .ai_family = AF_UNSPEC, .ai_socktype = SOCK_STREAM };
 	char *colon = strrchr(words, ':');
 	int error;
 
-	if (colon == NULL || colon == words || line_number(colon + 1, 65535) < 1)
+	if (colon == NULL || line_number(colon + 1, 65535) < 1)
 		return line_say(line, "not HOST:PORT, with a port from 1 to 65535");
 	*colon = '\0';
 	if (words[0] == '[' && colon[-1] == ']') {
 		colon[-1] = '\0';
 		words++;
 	}
-	error = getaddrinfo(words, colon + 1, &wanted, found);
+	if (words[0] == '\0') {
+		wanted.ai_family = AF_INET;
+		wanted.ai_flags = listens ? AI_PASSIVE : 0;
+	}
+	error = getaddrinfo(words[0] == '\0' ? NULL : words, colon + 1, &wanted, found);
 	return error == 0 || line_say(line, "the host %.100s: %s", words, gai_strerror(error));
 }
 
@@ -149,7 +154,7 @@ static bool tcp_open(lapd_line *line, char *words)
 		return line_say(line, "out of memory");
 	line->own = tcp;
 	tcp->listener = -1;
-	if (!find_addresses(line, words, &tcp->addresses))
+	if (!find_addresses(line, words, listens, &tcp->addresses))
 		return false;
 	tcp->address = tcp->addresses;
 	if (listens)
