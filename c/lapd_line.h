@@ -3,14 +3,14 @@
  * A line is opened by a text:
  *
  *   dahdi:16                  the D channel of DAHDI with this number
- *   misdn:0:te, misdn:0:nt    the D channel of a device of mISDN, by its number or name, as the
- *                             terminal or as the network; the device says whether it is S0 or E1
+ *   misdn:0:te, misdn:0:nt    the D channel of an S0 or E1 device of mISDN, by its number or name, as
+ *                             the terminal or as the network
  *   tcp:HOST:PORT             a connection to HOST at PORT, with the framing of `lapd net` and
  *                             `lapd user`; tcp:HOST:PORT:listen waits for connections
  *   unix:PATH                 waits at PATH for the driver `unixsocket` of Osmocom's libosmo-abis;
  *                             unix:PATH:connect connects to PATH
  *
- * A loop waits by poll() for what lapd_line_prepare asks for, and then calls lapd_line_next until it
+ * A loop waits by poll() for the events that lapd_line_prepare sets, and then calls lapd_line_next until it
  * returns LAPD_LINE_NOTHING. This takes what has arrived, sends what waits, and tries again what
  * failed: a lost connection, a device that was unplugged, a layer 1 that is not active. No call
  * blocks, except that lapd_line_open may look up the name of a host.
@@ -46,11 +46,11 @@ enum lapd_line_event {
 	LAPD_LINE_FRAME = 1,   /* a frame has arrived */
 	LAPD_LINE_UP = 2,      /* layer 1 is active (PH-ACTIVATE indication), or a connection is made */
 	LAPD_LINE_DOWN = 3,    /* layer 1 is not active (PH-DEACTIVATE indication), a connection is lost,
-	                        * or the device is gone; the frames that waited were dropped */
+	                        * or a device is gone; the frames that waited were dropped */
 	LAPD_LINE_FAULT = 4    /* a frame was lost or damaged, or layer 1 reports a fault */
 };
 
-/* What happened on a line since it was opened. */
+/* The counters of a line since it was opened. */
 typedef struct lapd_line_counts {
 	uint64_t received;    /* frames delivered */
 	uint64_t sent;        /* frames that the driver or the connection accepted */
@@ -92,13 +92,13 @@ int lapd_line_is_up(const lapd_line *line);
 /* The text that the line was opened by. */
 const char *lapd_line_name(const lapd_line *line);
 
-/* What happened, in words: of the last LAPD_LINE_UP, LAPD_LINE_DOWN or LAPD_LINE_FAULT. */
+/* The reason of the last LAPD_LINE_UP, LAPD_LINE_DOWN or LAPD_LINE_FAULT, in words. */
 const char *lapd_line_said(const lapd_line *line);
 
 void lapd_line_count(const lapd_line *line, lapd_line_counts *counts);
 
 /* Calls `found` for each D channel of this machine, with the text that opens it and what it is, and
- * for each driver that is not there, with the text NULL and the reason. Returns the number of D
+ * for each driver that is missing, with the text NULL and the reason. Returns the number of D
  * channels. */
 size_t lapd_line_list(void (*found)(void *context, const char *text, const char *what), void *context);
 

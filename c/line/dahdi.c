@@ -200,7 +200,7 @@ static void dahdi_again(lapd_line *line)
 
 /* ---- Frames and events. */
 
-/* An alarm. What the driver has not sent yet would arrive after it, so it is discarded. */
+/* An alarm. The driver discards the frames that it has not sent yet: they would arrive after it. */
 static enum lapd_line_event alarmed(lapd_line *line)
 {
 	unsigned int alarms = alarms_of(line);

@@ -1,4 +1,4 @@
-/* What line.c and the files of the kinds of lines share. */
+/* Shared by line.c and the files of the kinds of lines. */
 #ifndef KIND_H
 #define KIND_H
 
@@ -28,7 +28,7 @@ struct line_kind {
 	/* The next event of the driver. `frame` has room for MOST_READ octets. */
 	enum lapd_line_event (*receive)(lapd_line *line, uint8_t *frame, size_t *length);
 	enum sent (*send)(lapd_line *line, const uint8_t *frame, size_t length);
-	/* What is due by line->due: a connection, a device or an activation is tried again. */
+	/* Called at line->due: tries a connection, a device or an activation again. */
 	void (*again)(lapd_line *line);
 	/* Calls `found` as lapd_line_list does, or NULL. */
 	size_t (*list)(void (*found)(void *, const char *, const char *), void *context);
@@ -68,11 +68,11 @@ enum lapd_line_event line_is_up(lapd_line *line, const char *why);
 enum lapd_line_event line_is_down(lapd_line *line, const char *why);
 enum lapd_line_event line_fault(lapd_line *line, uint64_t *counter, const char *why);
 
-/* Closes the descriptor: the connection or the device is gone. It is tried again later. Returns the
- * event. */
+/* Closes the descriptor of a connection or device that is gone, which is tried again later. Returns
+ * the event. */
 enum lapd_line_event line_gone(lapd_line *line, const char *why);
 
-/* Keeps an event for the next call of lapd_line_next. A fault gives way to another event. */
+/* Keeps an event for the next call of lapd_line_next. Another event replaces a fault. */
 void line_keep(lapd_line *line, enum lapd_line_event event);
 
 /* Sets the time until kind->again, in milliseconds. */
@@ -84,7 +84,7 @@ void line_descriptor(int descriptor);
 /* A number from 0 to `most` that is the whole text, or -1. */
 long line_number(const char *text, long most);
 
-/* Removes `word` with a colon before it from the end of a text. Returns whether it was there. */
+/* Removes `word` with a colon before it from the end of a text. Returns whether the text ended so. */
 bool line_ends(char *text, const char *word);
 
 /* A listener with at most one connection, as tcp and unix have it. */

@@ -31,7 +31,7 @@ enum primitive {
 	MPH_INFORMATION_IND = 0x0702
 };
 enum signal { LOS_OFF = 0x10, LOS_ON, AIS_OFF, AIS_ON, RDI_OFF, RDI_ON, SLIP_RX = 0x20, SLIP_TX };
-#define TO_LAYER_1 0x0f /* the part of a primitive that says where it goes; 1: from a program */
+#define TO_LAYER_1 0x0f /* the layer that a primitive is for; 1: a program requests it */
 #define MOST_DEVICES 64 /* MAX_DEVICE_ID */
 #define MOST_FRAME_L1 300 /* MAX_DFRAME_LEN_L1: drivers discard a longer frame silently */
 
@@ -57,7 +57,7 @@ struct device {
 #define MEMORY_WAIT 10    /* milliseconds until a frame is sent again that the kernel had no memory for */
 
 struct misdn {
-	char wanted[LAPD_LINE_MOST_TEXT]; /* the number or the name of the device */
+	char wanted[LAPD_LINE_MOST_TEXT]; /* a number or a name */
 	bool is_network, is_shared;
 	uint32_t number;   /* of the last frame sent */
 	int64_t confirmed; /* when the driver must have confirmed it; 0 if it has */
@@ -178,7 +178,7 @@ static bool bound(lapd_line *line, const struct device *device)
 	return false;
 }
 
-/* Opens the device, which layer 1 may activate by now or later. */
+/* Opens a device, whose layer 1 may be active or not. */
 static bool open_device(lapd_line *line)
 {
 	struct misdn *misdn = line->own;
@@ -222,7 +222,7 @@ static void misdn_close(lapd_line *line)
 }
 
 /* Each second: a device that was unplugged is opened again, and layer 1 activated again. This call
- * also finds out that the device is gone, which wakes no poll(): see lapd_line_next. */
+ * lets lapd_line_next find that a device is gone, which wakes no poll(). */
 static void misdn_again(lapd_line *line)
 {
 	line_later(line, LAPD_LINE_RETRY);
@@ -245,7 +245,7 @@ static enum lapd_line_event confirmed(lapd_line *line, uint32_t number)
 	return LAPD_LINE_NOTHING;
 }
 
-/* A request of another program, which the kernel copies to all. It is told once. */
+/* A request of another program, which the kernel copies to all sockets: reported once. */
 static enum lapd_line_event requested(lapd_line *line, const struct head *head)
 {
 	struct misdn *misdn = line->own;
@@ -307,7 +307,7 @@ static enum lapd_line_event primitive_of(lapd_line *line, const struct head *hea
 	}
 }
 
-/* Reads one datagram. Returns its length, 0 if none has arrived, or -1 if the device is gone. */
+/* Reads one datagram. Returns its length, 0 if none has arrived, or -1 if a device is gone. */
 static ssize_t read_datagram(lapd_line *line, uint8_t *octets)
 {
 	ssize_t got;

@@ -154,7 +154,7 @@ static void deliver_frame(void)
 }
 
 /* A datagram of mISDN that is no frame: short, empty, or of an unknown primitive. An empty one means
- * that the device was removed. */
+ * that a device was removed. */
 static void deliver_datagram(uint8_t *octets, size_t length)
 {
 	static const uint8_t data[4] = { 0x02, 0x20, 0, 0 };
@@ -218,7 +218,7 @@ static void take_datagram(const uint8_t *octets, size_t length)
 		wrong("a frame did not wait for the confirmation of the last one");
 	take(octets + MISDN_HEAD, length - MISDN_HEAD);
 	memcpy(&confirm, octets + sizeof primitive, sizeof confirm);
-	/* What was sent before layer 1 went down is not waited for. */
+	/* The driver confirms no frame that was sent before layer 1 was down. */
 	is_unconfirmed = last_received > may_miss;
 }
 
@@ -455,7 +455,7 @@ static void step(void)
 	check_counts();
 }
 
-/* Brings the line up: the driver is there, and has no alarm. */
+/* Brings the line up, without an alarm. */
 static void bring_up(void)
 {
 	fake.open_error = 0;

@@ -37,7 +37,7 @@ static bool is_listed;
 
 static int connection = -1;
 
-/* What nobody read of the last time that the device was open. */
+/* Counts the frames that nobody read while a former descriptor was open, and closes it. */
 static void count_lost(void)
 {
 	uint8_t octets[8192];

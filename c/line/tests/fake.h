@@ -1,5 +1,5 @@
-/* Drivers of D channels that exist only in a test. The linker's --wrap gives the line code these
- * calls of the system in place of the kernel's: the driver is the other end of a socket pair. */
+/* Drivers of D channels that exist only in a test. By the linker's --wrap the line code calls
+ * these functions in place of the system's. The driver is the other end of a socket pair. */
 #ifndef FAKE_H
 #define FAKE_H
 
@@ -14,14 +14,14 @@ struct fake {
 	int driver;        /* the driver's end: what the line writes is read here; -1 if not open */
 	int line;          /* the line's end */
 	int64_t now;       /* the clock, in milliseconds */
-	int open_error;    /* the error of the next attempt to open the device; 0: none */
+	int open_error;    /* the error of the next attempt to open a device; 0: none */
 	bool is_full;      /* DAHDI accepts no frame */
-	bool is_e1;        /* mISDN: of the device */
+	bool is_e1;        /* mISDN: an E1 device, else S0 */
 	unsigned alarms;   /* DAHDI: of the channel */
 	int signalling;    /* DAHDI: of the channel */
 	int events[64];    /* DAHDI: those that wait */
 	size_t event_count;
-	size_t lost;       /* frames that the line sent, and nobody read before the device was opened again */
+	size_t lost;       /* frames that the line sent to a former descriptor, and nobody read */
 	bool is_dahdi;
 };
 
