@@ -1,13 +1,20 @@
 /* Many interfaces in one process: one epoll for their lines, one heap for their deadlines.
+ *
  * `many [PAIRS [LOST]]` makes PAIRS primary rate interfaces (1000 by default), with both ends of
- * each. It establishes the links, sends a message from each end, and releases the links. A socket
- * pair takes the place of each D channel. With LOST, each LOST-th frame is lost, so timers expire.
- * The status is 0 if each message was received and acknowledged. */
+ * each. A socket pair takes the place of each D channel. With LOST, each LOST-th frame is lost, so
+ * timers expire.
+ *
+ * `many net LINE user LINE ..` has an end at each LINE, a text of lapd_line.h such as dahdi:16. The
+ * other end of a line may be in another process.
+ *
+ * The user sides establish the links, each end sends a message, and the user sides release the
+ * links. The status is 0 if each message was received and acknowledged. */
 #define _POSIX_C_SOURCE 200809L
 
-#include "tcp_line.h"
+#include "example.h"
 
 #include <errno.h>
+#include <stdbool.h>
 #include <stdio.h>
 #include <stdlib.h>
 #include <string.h>
@@ -20,12 +27,17 @@
 #define MOST_PAIRS 32768 /* the number of an end has 16 bits */
 #define MESSAGE_OCTETS 5
 
-/* One end of an interface. A network side has an even number, and its user side the next one. */
+/* One end of an interface. Of a pair, the network side has an even number, and its user side the
+ * next one. */
 struct end {
 	lapd_side side;
-	int line;          /* a socket that keeps frames apart */
-	uint64_t deadline; /* of the side, as the heap has it */
-	size_t place;      /* in the heap */
+	bool is_network, is_established;
+	unsigned messages;  /* received and acknowledged: 2 when both are done */
+	lapd_line *line;    /* NULL for an end of a pair */
+	struct pollfd wait; /* what the epoll waits for: a socket of a pair, or what the line needs */
+	uint64_t line_due;  /* when the line is to be served at the latest */
+	uint64_t deadline;  /* of the side and the line, as the heap has it */
+	size_t place;       /* in the heap */
 };
 
 static struct end *ends, **heap;
@@ -75,29 +87,39 @@ static void make_message(size_t end, uint8_t *message)
 	message[4] = 0x05;
 }
 
-static bool is_message_of(size_t end, const uint8_t *octets, size_t length)
+/* Whether a message is that of the other end, which has an unknown number unless it is of a pair. */
+static bool is_message_for(const struct end *end, const uint8_t *octets, size_t length)
 {
+	size_t other = (size_t)(end - ends) ^ 1;
 	uint8_t message[MESSAGE_OCTETS];
 
-	make_message(end, message);
+	make_message(end->line == NULL ? other : (size_t)octets[2] << 8 | octets[3], message);
 	return length == sizeof message && memcmp(octets, message, sizeof message) == 0;
 }
 
+static void establish(struct end *end)
+{
+	check(lapd_side_establish(&end->side, 0, 0, clock_now()), "establish");
+}
+
 /* Counts a primitive of an end; false if it was not expected. */
-static bool count_primitive(size_t end, const lapd_primitive *item, const uint8_t *octets)
+static bool count_primitive(struct end *end, const lapd_primitive *item, const uint8_t *octets)
 {
 	switch (item->kind) {
 	case LAPD_NOTHING:
 		return true;
 	case LAPD_ESTABLISH_IND:
 	case LAPD_ESTABLISH_CONF:
-		established++;
+		established += !end->is_established;
+		end->is_established = true;
 		return true;
 	case LAPD_DATA_IND:
 		received++;
-		return is_message_of(end ^ 1, octets, item->octets);
+		end->messages++;
+		return is_message_for(end, octets, item->octets);
 	case LAPD_ACKNOWLEDGED:
 		acknowledged += item->count;
+		end->messages += item->count;
 		return true;
 	case LAPD_MDL_ERROR: /* such as a second SABME: the link recovers, or is released */
 		errors++;
@@ -105,30 +127,72 @@ static bool count_primitive(size_t end, const lapd_primitive *item, const uint8_
 	case LAPD_RELEASE_IND:
 	case LAPD_RELEASE_CONF:
 		released++;
-		return releases;
+		return releases || (end->line != NULL && end->messages == 2); /* another process may be ahead */
 	default:
 		return false;
 	}
 }
 
-static void deliver(size_t end, const lapd_primitive *item, const uint8_t *octets)
+/* Returns how many calls it has made, whose frames wait too. */
+static size_t deliver(struct end *end, const lapd_primitive *item, const uint8_t *octets)
 {
+	/* The program at the other end of the line may not run yet. */
+	if (item->kind == LAPD_RELEASE_IND && end->line != NULL && !end->is_network && !end->is_established) {
+		establish(end);
+		return 1;
+	}
 	if (count_primitive(end, item, octets))
-		return;
-	fprintf(stderr, "end %zu: kind %u with %zu octets was not expected\n", end, item->kind, item->octets);
+		return 0;
+	fprintf(stderr, "end %zu: %s with %zu octets was not expected\n", (size_t)(end - ends),
+	        lapd_kind_string(item->kind), item->octets);
 	exit(1);
 }
 
 /* ---- The loop. */
 
-/* Sends a frame. A line that does not accept it at once loses it: the link recovers. */
-static void send_frame(const struct end *end, const uint8_t *frame, size_t length)
+/* Lets the epoll wait for what a line needs now. This follows each call that may have closed the
+ * line's descriptor: the next one that any line opens can have the same number. */
+static void watch(struct end *end)
+{
+	struct epoll_event event = { 0, { end } };
+	struct pollfd wait;
+	int most = lapd_line_prepare(end->line, &wait);
+
+	end->line_due = most < 0 ? LAPD_NEVER : clock_now() + (uint64_t)most;
+	if (wait.fd == end->wait.fd && wait.events == end->wait.events)
+		return;
+	if (end->wait.fd >= 0)
+		epoll_ctl(poller, EPOLL_CTL_DEL, end->wait.fd, NULL); /* fails if it is closed */
+	event.events = (uint32_t)wait.events; /* POLLIN and others have the numbers of EPOLLIN and others */
+	if (wait.fd >= 0 && epoll_ctl(poller, EPOLL_CTL_ADD, wait.fd, &event) != 0)
+		fail("epoll_ctl");
+	end->wait = wait;
+}
+
+/* Sends a frame. A line that does not accept it at once, or is down, loses it: the link recovers. */
+static void send_frame(struct end *end, const uint8_t *frame, size_t length)
 {
 	frames++;
 	if (lost != 0 && frames % lost == 0)
 		return;
-	if (send(end->line, frame, length, MSG_NOSIGNAL | MSG_DONTWAIT) < 0 && errno != EAGAIN)
+	if (end->line != NULL)
+		lapd_line_send(end->line, frame, length);
+	else if (send(end->wait.fd, frame, length, MSG_NOSIGNAL | MSG_DONTWAIT) < 0 && errno != EAGAIN)
 		fail("send");
+}
+
+/* Updates the heap. */
+static void update(struct end *end)
+{
+	uint64_t deadline;
+
+	check(lapd_side_deadline(&end->side, &deadline), "deadline");
+	if (end->line != NULL) {
+		watch(end);
+		deadline = end->line_due < deadline ? end->line_due : deadline;
+	}
+	if (deadline != end->deadline)
+		set_deadline(end, deadline);
 }
 
 /* After each call for a side: sends its frames, delivers its primitives, and updates the heap. */
@@ -136,7 +200,6 @@ static void settle(struct end *end)
 {
 	uint8_t octets[LAPD_MOST_FRAME];
 	lapd_primitive item;
-	uint64_t deadline;
 	size_t left;
 
 	do {
@@ -144,32 +207,56 @@ static void settle(struct end *end)
 		if (item.kind == LAPD_FRAME)
 			send_frame(end, octets, item.octets);
 		else
-			deliver((size_t)(end - ends), &item, octets);
+			left += deliver(end, &item, octets);
 	} while (left > 0);
-	check(lapd_side_deadline(&end->side, &deadline), "deadline");
-	if (deadline != end->deadline)
-		set_deadline(end, deadline);
+	update(end);
+}
+
+/* The next event of an end's line, as of lapd_line_next. */
+static enum lapd_line_event next_event(struct end *end, uint8_t *frame, size_t size, size_t *length)
+{
+	enum lapd_line_event event;
+	ssize_t got;
+
+	if (end->line != NULL) {
+		event = lapd_line_next(end->line, frame, size, length);
+		watch(end);
+		return event;
+	}
+	got = recv(end->wait.fd, frame, size, MSG_DONTWAIT);
+	if (got < 0 && errno == EAGAIN)
+		return LAPD_LINE_NOTHING;
+	if (got <= 0)
+		fail("recv");
+	*length = (size_t)got;
+	return LAPD_LINE_FRAME;
 }
 
 /* Passes in every frame that has arrived. Returns a moment for which timers may expire: no other
  * frame had arrived by then. */
 static uint64_t receive(struct end *end)
 {
-	uint8_t frame[LAPD_MOST_FRAME + 1]; /* one more, so that no longer frame is cut to a valid one */
+	uint8_t frame[LAPD_LINE_MOST_FRAME];
+	enum lapd_line_event event;
 	uint64_t now = clock_now();
-	ssize_t length;
+	size_t length;
 	int left;
 
 	for (left = MOST_FRAMES; left > 0; left--) {
-		length = recv(end->line, frame, sizeof frame, MSG_DONTWAIT);
-		if (length < 0 && errno == EAGAIN)
+		event = next_event(end, frame, sizeof frame, &length);
+		if (event == LAPD_LINE_NOTHING)
 			break;
-		if (length <= 0)
-			fail("recv");
-		check(lapd_side_take(&end->side, frame, (size_t)length, now), "take");
+		if (event == LAPD_LINE_FRAME)
+			check(lapd_side_take(&end->side, frame, length, now), "take");
+		else
+			print_event(end->line, event);
+		if (event == LAPD_LINE_UP && !end->is_network && !end->is_established)
+			establish(end);
 		settle(end);
 		now = clock_now();
 	}
+	if (end->line != NULL)
+		update(end);
 	return now;
 }
 
@@ -183,21 +270,11 @@ static void expire(struct end *end)
 	expiries += expired;
 }
 
-/* The milliseconds until a moment, for epoll_wait: -1 waits without end. */
-static int time_until(uint64_t moment)
-{
-	uint64_t now = clock_now();
-
-	if (moment == LAPD_NEVER)
-		return -1;
-	return moment <= now ? 0 : (int)(moment - now);
-}
-
 /* Waits until frames arrive or a timer is due. Receives from all lines that have frames, and then
  * expires the timers that are due. */
 static void serve(void)
 {
-	int ready = epoll_wait(poller, events, (int)count, time_until(heap[0]->deadline)), at;
+	int ready = epoll_wait(poller, events, (int)count, wait_time(heap[0]->deadline, clock_now())), at;
 	uint64_t now;
 
 	if (ready < 0 && errno != EINTR)
@@ -220,36 +297,47 @@ static void *room_for(size_t size)
 	return room;
 }
 
-static void open_end(struct end *end, int line)
-{
-	struct epoll_event event = { EPOLLIN, { end } };
-
-	end->line = line;
-	end->deadline = LAPD_NEVER;
-	put(end, (size_t)(end - ends));
-	if (epoll_ctl(poller, EPOLL_CTL_ADD, line, &event) != 0)
-		fail("epoll_ctl");
-}
-
-/* Makes a network side and a user side with TEI 0, and a line between them. */
-static void open_pair(struct end *network, struct end *user)
+/* Makes a side with TEI 0. */
+static void open_end(struct end *end, bool is_network)
 {
 	static const lapd_settings settings = LAPD_PRIMARY;
 	static const uint8_t tei = 0;
-	int lines[2];
 
-	if (socketpair(AF_UNIX, SOCK_SEQPACKET, 0, lines) != 0)
+	end->is_network = is_network;
+	end->wait.fd = -1;
+	end->deadline = LAPD_NEVER;
+	put(end, (size_t)(end - ends));
+	if (is_network)
+		check(lapd_side_network(&end->side, &settings, &tei, 1), "network");
+	else
+		check(lapd_side_user(&end->side, &settings, tei), "user");
+}
+
+static void join(struct end *end, int socket)
+{
+	struct epoll_event event = { EPOLLIN, { end } };
+
+	end->wait.fd = socket;
+	if (epoll_ctl(poller, EPOLL_CTL_ADD, socket, &event) != 0)
+		fail("epoll_ctl");
+}
+
+/* Makes a network side and a user side, and a line between them. */
+static void open_pair(struct end *network, struct end *user)
+{
+	int sockets[2];
+
+	if (socketpair(AF_UNIX, SOCK_SEQPACKET, 0, sockets) != 0)
 		fail("socketpair");
-	open_end(network, lines[0]);
-	open_end(user, lines[1]);
-	check(lapd_side_network(&network->side, &settings, &tei, 1), "network");
-	check(lapd_side_user(&user->side, &settings, tei), "user");
+	open_end(network, true);
+	open_end(user, false);
+	join(network, sockets[0]);
+	join(user, sockets[1]);
 }
 
 static void open_all(void)
 {
 	struct rlimit descriptors;
-	size_t at;
 
 	ends = room_for(sizeof *ends);
 	heap = room_for(sizeof *heap);
@@ -262,21 +350,41 @@ static void open_all(void)
 	poller = epoll_create1(EPOLL_CLOEXEC);
 	if (poller < 0)
 		fail("epoll_create1");
+}
+
+static void open_pairs(void)
+{
+	size_t at;
+
 	for (at = 0; at < count; at += 2)
 		open_pair(&ends[at], &ends[at + 1]);
 }
 
-/* The user sides establish the links, each side sends a message, and the user sides release the
- * links. */
+/* Opens the lines of words such as `net dahdi:16`. */
+static void open_lines(char **words)
+{
+	size_t at;
+
+	for (at = 0; at < count; at++) {
+		open_end(&ends[at], strcmp(words[2 * at], "net") == 0);
+		ends[at].line = opened(words[2 * at + 1]);
+	}
+	for (at = 0; at < count; at++)
+		update(&ends[at]); /* the heap has all ends now */
+}
+
+/* The user sides establish the links, those of lines once the line is up. Each side sends a message,
+ * and the user sides release the links. */
 static void run(void)
 {
 	uint8_t message[MESSAGE_OCTETS];
 	size_t at;
 
-	for (at = 1; at < count; at += 2) {
-		check(lapd_side_establish(&ends[at].side, 0, 0, clock_now()), "establish");
-		settle(&ends[at]);
-	}
+	for (at = 0; at < count; at++)
+		if (!ends[at].is_network && ends[at].line == NULL) {
+			establish(&ends[at]);
+			settle(&ends[at]);
+		}
 	while (established < count)
 		serve();
 	for (at = 0; at < count; at++) {
@@ -287,10 +395,11 @@ static void run(void)
 	while (received < count || acknowledged < count)
 		serve();
 	releases = true;
-	for (at = 1; at < count; at += 2) {
-		check(lapd_side_release(&ends[at].side, 0, 0, clock_now()), "release");
-		settle(&ends[at]);
-	}
+	for (at = 0; at < count; at++)
+		if (!ends[at].is_network) {
+			check(lapd_side_release(&ends[at].side, 0, 0, clock_now()), "release");
+			settle(&ends[at]);
+		}
 	while (released < count)
 		serve();
 }
@@ -301,7 +410,10 @@ static void close_all(void)
 
 	for (at = 0; at < count; at++) {
 		lapd_side_free(&ends[at].side);
-		close(ends[at].line);
+		if (ends[at].line != NULL)
+			close_line(ends[at].line);
+		else
+			close(ends[at].wait.fd);
 	}
 	close(poller);
 	free(events);
@@ -309,21 +421,37 @@ static void close_all(void)
 	free(ends);
 }
 
+static bool are_lines(int words_count, char **words)
+{
+	int at;
+
+	for (at = 0; at < words_count; at += 2)
+		if (strcmp(words[at], "net") != 0 && strcmp(words[at], "user") != 0)
+			return false;
+	return words_count > 0 && words_count % 2 == 0;
+}
+
 int main(int words_count, char **words)
 {
+	bool on_lines = are_lines(words_count - 1, words + 1);
 	unsigned long pairs = words_count > 1 ? strtoul(words[1], NULL, 10) : 1000;
 	uint64_t begin = clock_now();
 
-	lost = words_count > 2 ? strtoul(words[2], NULL, 10) : 0;
-	if (pairs == 0 || pairs > MOST_PAIRS || words_count > 3 || (words_count == 3 && lost == 0)) {
-		fprintf(stderr, "usage: many [PAIRS [LOST]]\n");
+	lost = words_count > 2 && !on_lines ? strtoul(words[2], NULL, 10) : 0;
+	if (!on_lines && (pairs == 0 || pairs > MOST_PAIRS || words_count > 3 || (words_count == 3 && lost == 0))) {
+		fprintf(stderr, "usage: many [PAIRS [LOST]]\n       many net|user LINE [net|user LINE ..]\n");
 		return 2;
 	}
-	count = 2 * pairs;
+	count = on_lines ? (size_t)words_count / 2 : 2 * pairs;
 	open_all();
+	if (on_lines)
+		open_lines(words + 1);
+	else
+		open_pairs();
 	run();
 	close_all();
-	printf("%lu pairs: %zu messages received, %zu acknowledged; %zu frames, %zu timers expired, %zu errors; %lu ms\n",
-	       pairs, received, acknowledged, frames, expiries, errors, (unsigned long)(clock_now() - begin));
+	printf("%zu %s: %zu messages received, %zu acknowledged; %zu frames, %zu timers expired, %zu errors; %lu ms\n",
+	       on_lines ? count : count / 2, on_lines ? "lines" : "pairs", received, acknowledged, frames, expiries, errors,
+	       (unsigned long)(clock_now() - begin));
 	return 0;
 }

@@ -1,5 +1,6 @@
-/* Only includes the header, to compile it as C89 and C++. This file is not run. */
+/* Only includes the headers, to compile them as C89 and C++. This file is not run. */
 #include "lapd.h"
+#include "lapd_line.h"
 
 lapd_side side = LAPD_SIDE_INIT;
 lapd_settings basic = LAPD_BASIC;

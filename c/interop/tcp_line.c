@@ -9,29 +9,6 @@
 #include <stdlib.h>
 #include <string.h>
 #include <sys/socket.h>
-#include <time.h>
-
-uint64_t clock_now(void)
-{
-	struct timespec time;
-
-	clock_gettime(CLOCK_MONOTONIC, &time);
-	return (uint64_t)time.tv_sec * 1000 + (uint64_t)time.tv_nsec / 1000000;
-}
-
-void fail(const char *what)
-{
-	perror(what);
-	exit(1);
-}
-
-void check(lapd_result code, const char *what)
-{
-	if (code == LAPD_DONE)
-		return;
-	fprintf(stderr, "%s: %s\n", what, lapd_code_string(code));
-	exit(1);
-}
 
 static in_port_t port_of(const char *text)
 {

@@ -1,12 +1,9 @@
-/* A line over TCP on this machine, and a clock: the examples use them in place of a D channel and
- * its driver. Each frame follows its length: two octets, the high one first, as with `lapd net` and
- * `lapd user`. A failure ends the program. */
+/* A stream with the framing of `lapd net` and `lapd user`: each frame follows its length, two octets,
+ * the high one first. A failure ends the program. Programs with a D channel use lapd_line.h. */
 #ifndef TCP_LINE_H
 #define TCP_LINE_H
 
-#include "lapd.h"
-
-#include <stdbool.h>
+#include "example.h"
 
 #define LENGTH_OCTETS 2
 #define LINE_FRAME 512 /* the longest frame on the line; a valid one has LAPD_MOST_FRAME octets at most */
@@ -17,13 +14,6 @@ struct tcp_line {
 	size_t count;
 	uint8_t octets[LENGTH_OCTETS + LINE_FRAME];
 };
-
-/* The time of a monotonic clock, in milliseconds. */
-uint64_t clock_now(void);
-
-/* Ends the program, because a call of the system or of the library has failed. */
-void fail(const char *what);
-void check(lapd_result code, const char *what);
 
 /* Listens on this machine at this port, 1 to 65535. Returns the socket. */
 int listening(const char *port);
