@@ -160,6 +160,12 @@ static void send_waiting(lapd_line *line)
 	}
 }
 
+/* Whether a frame waits for nothing but its turn. */
+static bool can_send(const lapd_line *line)
+{
+	return line->counts.waiting > 0 && line->descriptor >= 0 && !line->is_full && line->send_at == 0;
+}
+
 int lapd_line_send(lapd_line *line, const uint8_t *frame, size_t length)
 {
 	struct waiting_frame *last;
@@ -229,10 +235,13 @@ enum lapd_line_event lapd_line_next(lapd_line *line, uint8_t *frame, size_t size
 		line->due = 0;
 		line->kind->again(line);
 	}
-	send_waiting(line);
-	if (line->pending != LAPD_LINE_NOTHING)
-		return take_pending(line);
-	event = line->kind->receive(line, octets, &count);
+	/* What arrives may be a confirmation, for which the next frame waits. */
+	do {
+		send_waiting(line);
+		if (line->pending != LAPD_LINE_NOTHING)
+			return take_pending(line);
+		event = line->kind->receive(line, octets, &count);
+	} while (event == LAPD_LINE_NOTHING && can_send(line));
 	if (event == LAPD_LINE_FRAME)
 		event = deliver(line, frame, size, octets, count);
 	if (event == LAPD_LINE_FRAME)
