@@ -479,6 +479,16 @@ static void bring_up(void)
 	serve();
 }
 
+/* No frame waits for nothing: nobody would wake the loop for it. */
+static void check_ready(void)
+{
+	lapd_line_counts counts;
+
+	lapd_line_count(line, &counts);
+	if (counts.waiting > 0 && (kind == DAHDI || (kind == MISDN && !is_unconfirmed)))
+		wrong("a frame waits, although the driver is ready");
+}
+
 /* The driver accepts and confirms each frame: what waits is sent, and what was delivered arrives. */
 static void be_calm(void)
 {
@@ -486,12 +496,13 @@ static void be_calm(void)
 
 	bring_up();
 	for (int round = 0; round < CALM_ROUNDS; round++) {
-		if (round < 20 && (kind != MISDN || draw(2) == 0)) {
+		if (round < 10)
 			deliver_frame();
+		if (round < 20)
 			send_frame();
-		}
 		serve();
 		take_all();
+		check_ready();
 		if (kind == MISDN && is_unconfirmed && fake_primitive(0x6002, confirm, NULL, 0))
 			is_unconfirmed = false;
 	}
