@@ -160,7 +160,7 @@ static void send_waiting(lapd_line *line)
 	}
 }
 
-/* Whether a frame waits for nothing but its turn. */
+/* Whether a frame waits that the driver would accept now. */
 static bool can_send(const lapd_line *line)
 {
 	return line->counts.waiting > 0 && line->descriptor >= 0 && !line->is_full && line->send_at == 0;
@@ -235,7 +235,7 @@ enum lapd_line_event lapd_line_next(lapd_line *line, uint8_t *frame, size_t size
 		line->due = 0;
 		line->kind->again(line);
 	}
-	/* What arrives may be a confirmation, for which the next frame waits. */
+	/* A confirmation may arrive, for which the next frame waits. */
 	do {
 		send_waiting(line);
 		if (line->pending != LAPD_LINE_NOTHING)
