@@ -22,7 +22,7 @@
 struct terminal {
 	lapd_side side;
 	lapd_line *line;
-	bool is_network, is_established;
+	bool is_network, is_requested;
 	bool has_arrived, is_released; /* the message, the link */
 };
 
@@ -74,9 +74,9 @@ static void send_and_report(struct terminal *t)
  * the link recovers by its timers, or is released. */
 static void start(struct terminal *t)
 {
-	if (t->is_network || t->is_established)
+	if (t->is_network || t->is_requested)
 		return;
-	t->is_established = true;
+	t->is_requested = true;
 	check(lapd_side_establish(&t->side, 0, 0, clock_now()), "establish");
 }
 
