@@ -82,6 +82,7 @@ static void connect_again(lapd_line *line)
 {
 	struct tcp *tcp = line->own;
 
+	line->events = POLLIN;
 	if (tcp->listener >= 0)
 		return;
 	line->descriptor = socket(tcp->address->ai_family, SOCK_STREAM, 0);
@@ -262,6 +263,12 @@ enum lapd_line_event line_accept(lapd_line *line, int listener)
 {
 	int connection = accept(listener, NULL, NULL);
 
+	if (connection < 0 && errno != EAGAIN) {
+		/* Such as too many open files: the connection waits, and would wake poll() at once. */
+		line_say(line, "no connection: %s", strerror(errno));
+		line->events = 0;
+		line_later(line, LAPD_LINE_RETRY);
+	}
 	if (connection < 0)
 		return LAPD_LINE_NOTHING;
 	set_options(connection);
