@@ -13,12 +13,12 @@ from common import TOP, Failed, compile_c, printed, text_at
 
 C = f"{TOP}/c"
 GUEST = f"{C}/interop/kernel_guest"
-# What must be installed: a program, and its package.
+# The programs that must be installed, each with its package.
 INSTALLED = {
     "qemu-system-x86_64": "qemu-system-x86", "cpio": "cpio", "gzip": "gzip", "cc": "gcc",
     "make": "make", "strip": "binutils", "apt-get": "apt", "dpkg-deb": "dpkg",
 }
-# What is only unpacked: the programs and libraries of the guest. tc needs the libraries after it.
+# The programs and libraries of the guest are only unpacked. tc needs the libraries after it.
 UNPACKED = (
     "busybox-static dahdi libtonezone2.0 dahdi-dkms libpri1.4 libpri-dev iproute2 libbpf1 libelf1"
     " libmnl0 libcap2 libbsd0 libmd0 libdb5.3 libtirpc3 libxtables12 zlib1g libselinux1"
@@ -91,7 +91,7 @@ class Machine:
     # ---- Packages.
 
     def fetch(self, names):
-        """Downloads the packages that are not there, and unpacks them, without root."""
+        """Downloads the packages that are missing, and unpacks them, without root."""
         folder = f"{self.hold}/packages"
         for name in names:
             done = f"{folder}/{name}.unpacked"
@@ -239,7 +239,7 @@ class Machine:
         os.chmod(f"{root}/init", 0o755)
 
     def boot(self, name, limit, more):
-        """Runs a part in a guest for so many seconds at most, with these files more, of which
+        """Runs a part in a guest for this number of seconds at most, with these files more, of which
         `part` replaces its script. Returns the files that it wrote, by their names, and how long
         it took."""
         folder = f"{self.hold}/parts/{name}"

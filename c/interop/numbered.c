@@ -100,7 +100,7 @@ static bool read_lines(int from)
 	return got > 0;
 }
 
-/* ---- What it is told. */
+/* ---- The lines of the program. */
 
 static int next_line(char *line, size_t size)
 {
