@@ -209,10 +209,10 @@ impl FramePrinter {
         self.fits == 0 && self.misfits > 0
     }
 
-    /// Whether the C/R bits of both directions are those of one side: a third of the kinds and C/R
-    /// bits that show a sender do not fit it.
+    /// Whether the C/R bits of both directions are those of one side: of the kinds and C/R bits that
+    /// show a sender, some fit the named one, and a third or more do not.
     pub fn is_one_sided(&self) -> bool {
-        self.misfits > 0 && self.misfits >= self.fits / 2
+        self.fits > 0 && self.misfits > 0 && self.misfits >= self.fits / 2
     }
 
     /// Counts a datagram to the port of GSMTAP that is not GSMTAP.
