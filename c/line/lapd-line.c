@@ -222,6 +222,15 @@ static void catch_signals(void)
 	sigaction(SIGUSR1, &action, NULL);
 }
 
+/* At the end a further signal changes nothing, and none stays blocked. */
+static void ignore_signals(void)
+{
+	signal(SIGINT, SIG_IGN);
+	signal(SIGTERM, SIG_IGN);
+	signal(SIGUSR1, SIG_IGN);
+	sigprocmask(SIG_SETMASK, &served, NULL);
+}
+
 static void run(void)
 {
 	catch_signals();
@@ -232,6 +241,7 @@ static void run(void)
 			print_summary();
 		}
 	}
+	ignore_signals();
 	print_summary();
 }
 
