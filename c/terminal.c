@@ -22,20 +22,34 @@
 struct terminal {
 	lapd_side side;
 	lapd_line *line;
-	bool is_network, is_established;
-	bool has_arrived, is_released; /* the message, the link */
+	bool is_network, is_requested;
+	bool is_sent, has_arrived, is_released; /* the message, the link */
 };
 
-/* Layer 3: the user side sends a message once the link is established, and then releases the link.
- * Returns how many calls it has made, whose frames wait too. */
-static size_t answer(struct terminal *t, const lapd_primitive *item)
+/* Sends the message of the user side, if it has not been sent or was dropped. */
+static size_t send_message(struct terminal *t, uint8_t tei)
 {
 	static const uint8_t setup[] = { 0x08, 0x01 };
 
+	if (t->is_network || t->is_sent)
+		return 0;
+	check(lapd_side_give(&t->side, 0, tei, setup, sizeof setup, clock_now()), "give");
+	t->is_sent = true;
+	return 1;
+}
+
+/* Layer 3: the user side sends a message once the link is established, and then releases the link. If
+ * the other side establishes the link again meanwhile, the message is dropped, and sent again.
+ * Returns how many calls it has made, whose frames wait too. */
+static size_t answer(struct terminal *t, const lapd_primitive *item)
+{
 	switch (item->kind) {
+	case LAPD_ESTABLISH_IND:
 	case LAPD_ESTABLISH_CONF:
-		check(lapd_side_give(&t->side, 0, item->tei, setup, sizeof setup, clock_now()), "give");
-		return 1;
+		return send_message(t, item->tei);
+	case LAPD_DROPPED:
+		t->is_sent = t->has_arrived;
+		return 0;
 	case LAPD_ACKNOWLEDGED:
 		t->has_arrived = true;
 		check(lapd_side_release(&t->side, 0, item->tei, clock_now()), "release");
@@ -74,9 +88,9 @@ static void send_and_report(struct terminal *t)
  * the link recovers by its timers, or is released. */
 static void start(struct terminal *t)
 {
-	if (t->is_network || t->is_established)
+	if (t->is_network || t->is_requested)
 		return;
-	t->is_established = true;
+	t->is_requested = true;
 	check(lapd_side_establish(&t->side, 0, 0, clock_now()), "establish");
 }
 

@@ -16,6 +16,7 @@
 #define MOST_EVENTS 4096 /* of a line, before the other lines are served */
 #define NOTE_EVERY 1000  /* milliseconds between two notes on faults of a line */
 #define NOTE_DOWN 2000   /* milliseconds that a line is down until there is a note on why */
+#define LAST 500         /* milliseconds at the end for the frames that wait */
 
 static const char usage[] =
 	"usage: lapd-line LINE (--connect | --listen) HOST:PORT [LINE ..] [--quiet]\n"
@@ -186,10 +187,11 @@ static void wait_for(int wait)
 	ppoll(waits, (nfds_t)(2 * count), wait < 0 ? NULL : &most, &served);
 }
 
-static void serve_all(void)
+/* Serves all lines, and then waits at most `wait` milliseconds, or without end if it is negative. */
+static void serve_all(int wait)
 {
 	bool is_more = false;
-	int wait = is_quiet ? -1 : NOTE_DOWN, most;
+	int most;
 
 	for (size_t at = 0; at < count; at++)
 		for (int end = 0; end < 2; end++) {
@@ -231,17 +233,40 @@ static void ignore_signals(void)
 	sigprocmask(SIG_SETMASK, &served, NULL);
 }
 
+static bool is_any_waiting(void)
+{
+	lapd_line_counts counts;
+
+	for (size_t at = 0; at < 2 * count; at++) {
+		lapd_line_count(bridges[at / 2].lines[at % 2], &counts);
+		if (counts.waiting > 0)
+			return true;
+	}
+	return false;
+}
+
+/* Sends the frames that have arrived, such as the last DISC, as far as drivers accept them in time. */
+static void serve_last(void)
+{
+	int64_t end = now() + LAST;
+
+	do
+		serve_all(10);
+	while (is_any_waiting() && now() < end);
+}
+
 static void run(void)
 {
 	catch_signals();
 	while (!wants_end) {
-		serve_all();
+		serve_all(is_quiet ? -1 : NOTE_DOWN);
 		if (wants_summary) {
 			wants_summary = 0;
 			print_summary();
 		}
 	}
 	ignore_signals();
+	serve_last();
 	print_summary();
 }
 

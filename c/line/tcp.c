@@ -57,10 +57,32 @@ static void try_later(lapd_line *line, int error)
 	line_later(line, LAPD_LINE_RETRY);
 }
 
+/* Whether a connection is one to itself. While nobody listens at a port of this machine, the system
+ * may draw the same port for this end, and both ends are then one socket (RFC 9293 3.5). */
+static bool is_own(int connection)
+{
+	struct sockaddr_storage near, far;
+	socklen_t near_size = sizeof near, far_size = sizeof far;
+
+	memset(&near, 0, sizeof near);
+	memset(&far, 0, sizeof far);
+	return getsockname(connection, (struct sockaddr *)&near, &near_size) == 0
+		&& getpeername(connection, (struct sockaddr *)&far, &far_size) == 0 && memcmp(&near, &far, sizeof near) == 0;
+}
+
+static enum lapd_line_event connected(lapd_line *line)
+{
+	if (!is_own(line->descriptor))
+		return line_is_up(line, "connected");
+	try_later(line, ECONNREFUSED);
+	return LAPD_LINE_NOTHING;
+}
+
 static void connect_again(lapd_line *line)
 {
 	struct tcp *tcp = line->own;
 
+	line->events = POLLIN;
 	if (tcp->listener >= 0)
 		return;
 	line->descriptor = socket(tcp->address->ai_family, SOCK_STREAM, 0);
@@ -71,7 +93,7 @@ static void connect_again(lapd_line *line)
 	set_options(line->descriptor);
 	begin(tcp);
 	if (connect(line->descriptor, tcp->address->ai_addr, tcp->address->ai_addrlen) == 0) {
-		line_keep(line, line_is_up(line, "connected"));
+		line_keep(line, connected(line));
 		return;
 	}
 	if (errno != EINPROGRESS) {
@@ -99,7 +121,7 @@ static enum lapd_line_event connecting(lapd_line *line)
 	}
 	tcp->is_connecting = false;
 	line->events = POLLIN;
-	return line_is_up(line, "connected");
+	return connected(line);
 }
 
 static bool open_listener(lapd_line *line, const struct addrinfo *address)
@@ -241,6 +263,12 @@ enum lapd_line_event line_accept(lapd_line *line, int listener)
 {
 	int connection = accept(listener, NULL, NULL);
 
+	if (connection < 0 && errno != EAGAIN) {
+		/* Such as too many open files: the connection waits, and would wake poll() at once. */
+		line_say(line, "no connection: %s", strerror(errno));
+		line->events = 0;
+		line_later(line, LAPD_LINE_RETRY);
+	}
 	if (connection < 0)
 		return LAPD_LINE_NOTHING;
 	set_options(connection);

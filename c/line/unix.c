@@ -27,6 +27,7 @@ static void connect_again(lapd_line *line)
 {
 	struct local *local = line->own;
 
+	line->events = POLLIN;
 	if (local->listener >= 0)
 		return;
 	line->descriptor = socket(AF_UNIX, SOCK_SEQPACKET, 0);

@@ -1,13 +1,17 @@
 /* One end of a D channel, by the libpri.so.1.4 that the loader finds.
  *
  * usage: end net|cpe pri|ptp|ptmp SOCKET CALLS IDLE [pause=MS] [hold=MS] [t203=MS] [t309=MS]
- *            [later=MS]
+ *            [later=MS] [first=MS]
+ *
+ * SOCKET is the descriptor of a socket that the program inherits, or, if the program is built with
+ * WITH_DAHDI, dahdi:CHANNEL, a D channel of DAHDI, as Asterisk uses it.
  *
  * It makes CALLS calls, one after another with a pause between them, holds each for some time, and
- * answers the calls of the other end. It sets T203 to `later` when the link is up. It ends IDLE
- * milliseconds after its last call, or when the other end closes the socket; with IDLE -1 only then.
- * It prints each event with its time, and a last line of counts. The status is 0 if each of its
- * calls was answered. */
+ * answers the calls of the other end. The first one is made when the link is up, but not before
+ * `first`: if this end begins before the other, that one establishes the link again. It sets T203 to
+ * `later` when the link is up. It ends IDLE milliseconds after its last call, or when the other end
+ * closes the socket; with IDLE -1 only then. It prints each event with its time, and a last line of
+ * counts. The status is 0 if each of its calls was answered. */
 #include <libpri.h>
 #include <poll.h>
 #include <stdbool.h>
@@ -19,6 +23,12 @@
 #include <time.h>
 #include <unistd.h>
 
+#ifdef WITH_DAHDI
+#include <dahdi/user.h>
+#include <fcntl.h>
+#include <sys/ioctl.h>
+#endif
+
 #define MOST_WAIT 20         /* ms */
 #define LONGEST_CALL 60.0    /* s */
 #define BUS_STARTS 1.5       /* s until the terminals of a bus have TEIs */
@@ -26,7 +36,7 @@
 static struct {
 	const char *name;
 	bool is_network, is_basic, is_bus;
-	int calls, idle, pause, hold, t203, t309, later;
+	int calls, idle, pause, hold, t203, t309, later, first;
 } options;
 
 static struct {
@@ -132,14 +142,55 @@ static long until_due(struct pri *pri)
 	return (due->tv_sec - time.tv_sec) * 1000L + (due->tv_usec - time.tv_usec + 999) / 1000;
 }
 
+#ifdef WITH_DAHDI
+static int opened_channel(int channel)
+{
+	struct dahdi_bufferinfo buffers = {
+		.txbufpolicy = DAHDI_POLICY_IMMEDIATE,
+		.rxbufpolicy = DAHDI_POLICY_IMMEDIATE,
+		.numbufs = 32,
+		.bufsize = 1024,
+	};
+	int it = open("/dev/dahdi/channel", O_RDWR | O_NONBLOCK);
+
+	if (it < 0 || ioctl(it, DAHDI_SPECIFY, &channel) || ioctl(it, DAHDI_SET_BUFINFO, &buffers)) {
+		perror("DAHDI");
+		exit(2);
+	}
+	return it;
+}
+
+/* Reads an event, such as an alarm: until then the driver returns no frame. */
+static void read_event(int channel)
+{
+	int event = DAHDI_EVENT_NONE;
+
+	if (ioctl(channel, DAHDI_GETEVENT, &event) == 0 && event != DAHDI_EVENT_NONE)
+		printf("%s %.3f event %d of DAHDI\n", options.name, seconds(), event);
+}
+#else
+static int opened_channel(int channel)
+{
+	fprintf(stderr, "end: built without DAHDI, so without its channel %d\n", channel);
+	exit(2);
+}
+
+static void read_event(int channel)
+{
+	(void)channel;
+}
+#endif
+
 /* Waits for a frame or a timer, and runs what is due. Returns false if the socket was closed. */
 static bool serve(struct pri *pri, int socket)
 {
-	struct pollfd ready = { socket, POLLIN, 0 };
+	struct pollfd ready = { socket, POLLIN | POLLPRI, 0 };
 	long wait = until_due(pri);
 	char octet;
 
 	if (poll(&ready, 1, wait < 0 ? 0 : wait > MOST_WAIT ? MOST_WAIT : (int)wait) > 0) {
+		if (ready.revents & POLLPRI)
+			read_event(socket);
 		if (recv(socket, &octet, 1, MSG_PEEK | MSG_DONTWAIT) == 0)
 			return false;
 		on_event(pri, pri_check_event(pri));
@@ -152,7 +203,7 @@ static bool serve(struct pri *pri, int socket)
 /* Starts the next call, or ends one that hangs. Returns false if nothing is left to do. */
 static bool advance(struct pri *pri)
 {
-	double now = seconds(), first = options.is_bus && options.is_network ? BUS_STARTS : 0;
+	double now = seconds(), first = options.is_bus && options.is_network ? BUS_STARTS : options.first / 1e3;
 
 	if (call && now - call_began > LONGEST_CALL)
 		end_call(false);
@@ -185,6 +236,7 @@ static void read_options(char **words)
 		sscanf(*words, "t203=%d", &options.t203);
 		sscanf(*words, "t309=%d", &options.t309);
 		sscanf(*words, "later=%d", &options.later);
+		sscanf(*words, "first=%d", &options.first);
 	}
 }
 
@@ -210,6 +262,7 @@ static struct pri *new_end(int socket)
 int main(int words, char **word)
 {
 	struct pri *pri;
+	int line;
 
 	if (words < 6) {
 		fprintf(stderr, "usage: end net|cpe pri|ptp|ptmp SOCKET CALLS IDLE [WORD..]\n");
@@ -221,8 +274,9 @@ int main(int words, char **word)
 	srandom((unsigned)getpid() * 7919u);
 	pri_set_message(on_words);
 	pri_set_error(on_words);
-	pri = new_end(atoi(word[3]));
-	while (serve(pri, atoi(word[3])) && advance(pri))
+	line = strncmp(word[3], "dahdi:", 6) == 0 ? opened_channel(atoi(word[3] + 6)) : atoi(word[3]);
+	pri = new_end(line);
+	while (serve(pri, line) && advance(pri))
 		;
 	printf("%s made %d answered %d failed %d received %d up %d down %d of %s\n", options.name,
 		count.made, count.answered, count.failed, count.received, count.up, count.down,
