@@ -30,10 +30,15 @@ link_type_of number = if number == 177 then LinuxLapd else (
 
 -- ---- LINKTYPE_LINUX_LAPD: 16 octets before each frame.
 
--- the side that captured, if an address is present: the network side if its first octet is not 0
-abbrev pub capturing_side : ℕ → ℕ → Option Side
-capturing_side length first = if length == 0 then None else (
-    if first == 0 then Some User else Some Network)
+-- the side that captured: the network side if the first octet of the address is not 0
+abbrev pub capturing_side : ℕ → Side
+capturing_side first = if first == 0 then User else Network
+
+-- whether a header with this packet type, this length of the address and its first octet names the
+-- sender for certain: Wireshark and Osmocom write the octet with the length 0; text2pcap writes 0
+-- for all three, whoever sent the frame
+abbrev pub is_named : ℕ → ℕ → ℕ → Bool
+is_named type length first = not (length == 0) || (not (first == 0) || not (type == 0))
 
 -- who sent a frame that this side captured, by the packet type: 0 to this host, 1 to all, 2 to some,
 -- 3 from another terminal, 4 from this host
@@ -42,20 +47,16 @@ sent_by_type type side = if nat_lt type 3 then Some (other_side side) else (
     if type == 3 then Some User else (
     if type == 4 then Some side else None))
 
--- without an address, as text2pcap writes it, nobody is named
-abbrev pub sender_of : ℕ → Option Side → Option Side
-sender_of type None = None
-sender_of type (Some side) = sent_by_type type side
-
 -- the frame after the 16 octets from `start` on: packet type, ARPHRD type, length of the address, 8
 -- octets of address, and the protocol, 0x0030
 abbrev pub linux_lapd : ℕ → ℕ → ℕ → List ℕ → CaptureItem
 linux_lapd start kept end octets = if nat_lt (end - start) 16 then Unreadable BadLength else (
     if nat_lt (kept - start) 16 then Unreadable CutHeader else (
     if number_at Big 2 (start + 14) octets == 0x0030 then Frame (record {
-      from = sender_of (number_at Big 2 start octets)
-          (capturing_side (number_at Big 2 (start + 4) octets) (slice_index octets (start + 6)));
-      is_sure = true;
+      from = sent_by_type (number_at Big 2 start octets)
+          (capturing_side (slice_index octets (start + 6)));
+      is_sure = is_named (number_at Big 2 start octets) (number_at Big 2 (start + 4) octets)
+          (slice_index octets (start + 6));
       start = start + 16;
       end = kept;
       is_cut = nat_lt kept end;
@@ -205,9 +206,10 @@ cooked start kept end octets = if nat_lt (end - start) 16 then Unreadable BadLen
 -- the frame after 20 octets
 abbrev pub lapd2 : ℕ → ℕ → ℕ → List ℕ → CaptureItem
 lapd2 start kept end octets = Frame (record {
-  from = sender_of (slice_index octets (start + 10))
-      (capturing_side (slice_index octets (start + 11)) (slice_index octets (start + 12)));
-  is_sure = true;
+  from = sent_by_type (slice_index octets (start + 10))
+      (capturing_side (slice_index octets (start + 12)));
+  is_sure = is_named (slice_index octets (start + 10)) (slice_index octets (start + 11))
+      (slice_index octets (start + 12));
   start = start + 20;
   end = kept;
   is_cut = nat_lt kept end;

@@ -6,7 +6,7 @@ ghost use Rattle.lapd_capture.specs.Packet.{IsWithin, by_protocol, by_protocol2,
 use crate::ethernet::typed;
 use crate::item::{CaptureItem, PacketFault, Span};
 use crate::order::Order;
-use crate::packet::{PROTOCOL, capturing_side, linux_lapd, sender_of};
+use crate::packet::{PROTOCOL, capturing_side, is_named, linux_lapd, sent_by_type};
 
 /// The length of the header of link type 113, in octets.
 const HEADER: usize = 16;
@@ -102,10 +102,12 @@ fn lapd2(start: usize, kept: usize, end: usize, octets: &[u8]) -> CaptureItem
     ensures exact { result ≡ lapd2 start kept end octets.now }
     ensures within { IsWithin (length octets.now) result }
 {
-    let side = capturing_side(usize::from(octets[start + 11]), octets[start + 12]);
+    let packet_type = usize::from(octets[start + 10]);
+    let length = usize::from(octets[start + 11]);
+    let first = octets[start + 12];
     CaptureItem::Frame(Span {
-        from: sender_of(usize::from(octets[start + 10]), side),
-        is_sure: true,
+        from: sent_by_type(packet_type, capturing_side(first)),
+        is_sure: is_named(packet_type, length, first),
         start: start + HEADER_2,
         end: kept,
         is_cut: kept < end,

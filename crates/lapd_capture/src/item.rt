@@ -7,7 +7,8 @@ pub struct Span {
     /// Who sent it, if the capture says so.
     pub from: Option<Side>,
     /// Whether that is certain. A GSMTAP packet without the uplink bit names the network, but some
-    /// programs never set this bit.
+    /// programs never set this bit. So does a header of link type 177 that is 0 but for its
+    /// protocol, as some programs write it for each frame.
     pub is_sure: bool,
     /// The place of its first octet.
     pub start: usize,

@@ -1,7 +1,7 @@
 //! The content of a packet of a capture, by the link type of its interface.
 
 ghost use Rattle.std.specs.Prelude.{◌≡◌, ◌≤◌, ◌<◌, ◌+◌, ◌^◌, length};
-ghost use Rattle.lapd_capture.specs.Packet.{linux_lapd, capturing_side, captured_packet_at, sender_of, sent_by_type, packet_at, IsWithin};
+ghost use Rattle.lapd_capture.specs.Packet.{linux_lapd, capturing_side, captured_packet_at, is_named, sent_by_type, packet_at, IsWithin};
 
 use crate::cooked::{cooked, cooked2};
 use crate::ethernet::ethernet;
@@ -79,43 +79,39 @@ pub(crate) fn linux_lapd(start: usize, kept: usize, end: usize, octets: &[u8]) -
     if Order::Big.u16_at(start + 14, octets) != PROTOCOL {
         return CaptureItem::Unreadable(PacketFault::BadHeader);
     }
+    let packet_type = Order::Big.u16_at(start, octets);
     let length = Order::Big.u16_at(start + 4, octets);
-    let side = capturing_side(length, octets[start + 6]);
+    let first = octets[start + 6];
     CaptureItem::Frame(Span {
-        from: sender_of(Order::Big.u16_at(start, octets), side),
-        is_sure: true,
+        from: sent_by_type(packet_type, capturing_side(first)),
+        is_sure: is_named(packet_type, length, first),
         start: start + LINUX_HEADER,
         end: kept,
         is_cut: kept < end,
     })
 }
 
-/// The side that captured, by the length of the address and its first octet; `None` if there is no
-/// address.
-pub(crate) fn capturing_side(length: usize, first: u8) -> Option<Side>
-    ensures { result ≡ capturing_side length first }
+/// The side that captured, by the first octet of the address.
+pub(crate) fn capturing_side(first: u8) -> Side
+    ensures { result ≡ capturing_side first }
 {
-    if length == 0 {
-        return None;
-    }
     match first {
-        0 => Some(Side::User),
-        _ => Some(Side::Network),
+        0 => Side::User,
+        _ => Side::Network,
     }
 }
 
-/// Who sent a frame that this side captured, by the packet type; `None` if the side is not known.
-pub(crate) fn sender_of(packet_type: usize, side: Option<Side>) -> Option<Side>
-    ensures { result ≡ sender_of packet_type side }
+/// Whether a header with this packet type, this length of the address and its first octet names the
+/// sender for certain. Wireshark and Osmocom write the octet with the length 0; `text2pcap` writes 0
+/// for all three, whoever sent the frame.
+pub(crate) fn is_named(packet_type: usize, length: usize, first: u8) -> bool
+    ensures { result ≡ is_named packet_type length first }
 {
-    match side {
-        None => None,
-        Some(side) => sent_by_type(packet_type, side),
-    }
+    length != 0 || first != 0 || packet_type != 0
 }
 
 /// Who sent a frame that this side captured, by the packet type.
-fn sent_by_type(packet_type: usize, side: Side) -> Option<Side>
+pub(crate) fn sent_by_type(packet_type: usize, side: Side) -> Option<Side>
     ensures { result ≡ sent_by_type packet_type side }
 {
     match packet_type {

@@ -245,6 +245,7 @@ pub fn frames_of(rt: &HostRuntime, options: DecodeOptions, time: PrintedTime) ->
         style: style_of(options),
         time: time_of(time),
         filter: filter_of(options.frames),
+        once: has_calls(options),
         any_sapi: options.any_sapi,
         is_colored: is_colored(rt, options.color),
         count: options.count,
@@ -311,12 +312,19 @@ fn filter_of(frames: Filter) -> Option<Filter> {
     }
 }
 
-/// How `decode` follows the links, if it does.
+/// How `decode` follows the links, if it does. It does for a table of calls, in which a message counts
+/// once, however often its I frame is sent.
 pub fn follow_of(options: DecodeOptions) -> Option<Follow> {
     match options.follow {
         Some(follow) => Some(Follow { k: follow.k }),
+        None if has_calls(options) => Some(Follow { k: None }),
         None => None,
     }
+}
+
+// Whether `decode` prints a table of calls.
+fn has_calls(options: DecodeOptions) -> bool {
+    matches!(options.layout, PrintedLayout::Calls)
 }
 
 // Executes the script of two ends whose frames pass through a connection of the process to itself.

@@ -41,6 +41,11 @@ const UNNAMED: &str = "\
 the capture does not name each sender: it is taken from the kind and C/R bit of the frame, or \
 printed as ?; --sender names it";
 
+/// The report that the C/R bits of both directions are those of one side.
+const ONE_SIDE: &str = "\
+both directions have the C/R bits of one side (Q.921 3.3.2): both ends are set up as the same side, \
+or the line is looped; set one end up as the other side, or open the loop";
+
 /// How to print the frames of a capture.
 #[derive(Clone, Copy)]
 pub struct CaptureStyle {
@@ -373,11 +378,14 @@ fn note_strangers<E: Write>(printer: &FramePrinter, errors: &mut E) {
     };
 }
 
-/// Reports that the chosen sender does not fit any command or response, if so. A failure of the
-/// error writer is ignored.
+/// Reports that the chosen sender does not fit any command or response, or that both directions have
+/// the C/R bits of one side, if so. A failure of the error writer is ignored.
 pub(crate) fn note_misfit<E: Write>(printer: &FramePrinter, chosen: Option<Side>, errors: &mut E) {
     let (name, other) = match chosen {
-        None => return,
+        None => {
+            note_one_side(printer, errors);
+            return;
+        }
         Some(Side::User) => ("user", "net"),
         Some(Side::Network) => ("net", "user"),
     };
@@ -386,6 +394,13 @@ pub(crate) fn note_misfit<E: Write>(printer: &FramePrinter, chosen: Option<Side>
             errors,
             "no command or response fits --sender {name}; try --sender {other}"
         );
+    }
+}
+
+/// Reports that the C/R bits of both directions are those of one side, if so.
+fn note_one_side<E: Write>(printer: &FramePrinter, errors: &mut E) {
+    if printer.is_one_sided() {
+        let _ = writeln!(errors, "{ONE_SIDE}");
     }
 }
 
@@ -398,12 +413,14 @@ fn see_sender(printer: &mut FramePrinter, frame: Span)
     }
 }
 
-/// Counts whether octets fit the chosen sender, if the capture names none.
+/// Counts whether octets fit the sender that the capture names, or else the chosen one.
 fn see_choice(printer: &mut FramePrinter, frame: Span, chosen: Option<Side>, octets: &[u8])
     ensures { printer.new ≡ printer.old }
 {
-    if sender_in(printer.has_user(), frame).is_none() {
-        printer.see_choice(chosen, octets);
+    match (sender_in(printer.has_user(), frame), chosen) {
+        (None, chosen) => printer.see_choice(chosen, octets),
+        (named, None) => printer.see_choice(named, octets),
+        (Some(_), Some(_)) => {}
     }
 }
 

@@ -4,7 +4,8 @@ ghost use Rattle.std.specs.Prelude.{◌≡◌, option_map};
 ghost use Rattle.lapd_field.specs.Address.{other_side};
 ghost use Rattle.lapd_cli_decode.specs.LogSenders.{line_sender, or_side, printer_after};
 
-use lapd_cli_frames::{named_or_by_kind, sender_by_kind};
+use lapd_cli_frames::named_or_by_kind;
+use lapd_follow::sender_by_kind;
 use lapd_frame::Side;
 
 /// The sender of a loose line's octets, as far as the line says.
@@ -24,7 +25,7 @@ pub(crate) enum LineSender {
 
 impl LineSender {
     /// The sender of these octets, if it is known. `chosen` is the chosen printer of the lines, and
-    /// `shown` the one that the lines before showed.
+    /// `shown` the one that the lines before showed. No C/R bit overrules a mark of a known printer.
     pub(crate) fn side(
         &self,
         chosen: Option<Side>,
@@ -35,20 +36,20 @@ impl LineSender {
     {
         match self {
             LineSender::Named(side) => Some(*side),
-            LineSender::Printer => or_side(named_or_by_kind(chosen, octets), shown),
-            LineSender::Peer => or_side(named_or_by_kind(other(chosen), octets), other(shown)),
+            LineSender::Printer => named_or_by_kind(or_side(chosen, shown), octets),
+            LineSender::Peer => named_or_by_kind(other(or_side(chosen, shown)), octets),
             LineSender::Unnamed => named_or_by_kind(chosen, octets),
             LineSender::Continued => None,
         }
     }
 
-    /// The printer of the lines, as far as these octets and the lines before show it.
+    /// The printer of the lines, by the first marked octets whose kind and C/R bit show it.
     pub(crate) fn printer(&self, shown: Option<Side>, octets: &[u8]) -> Option<Side>
         ensures { result ≡ printer_after shown self.now octets.now }
     {
         match self {
-            LineSender::Printer => or_side(sender_by_kind(octets), shown),
-            LineSender::Peer => or_side(other(sender_by_kind(octets)), shown),
+            LineSender::Printer => or_side(shown, sender_by_kind(octets)),
+            LineSender::Peer => or_side(shown, other(sender_by_kind(octets))),
             LineSender::Named(_) | LineSender::Unnamed | LineSender::Continued => shown,
         }
     }

@@ -191,6 +191,7 @@ impl<E: Write> PrintedLines<E> {
             result self.new (W.contents out.old) (W.contents out.new) }
     {
         let packet = self.printer.line_packet(self.time);
+        self.printer.see_choice(Some(from), self.octets.as_slice());
         self.printer
             .print(packet, Some(from), self.octets.as_slice(), out)
     }
@@ -274,7 +275,7 @@ impl<E: Write> PrintedLines<E> {
         let from = sender.side(chosen, self.shown, octets);
         self.note_unnamed(chosen.is_none() && !matches!(sender, LineSender::Named(_)));
         self.shown = sender.printer(self.shown, octets);
-        if chosen.is_some() && !matches!(sender, LineSender::Named(_)) {
+        if chosen.is_none() || !matches!(sender, LineSender::Named(_)) {
             self.printer.see_choice(from, octets);
         }
         let packet = self.printer.line_packet(self.time);

@@ -79,6 +79,7 @@ fn frame_style(words: CommandWords<'_>) -> FrameStyle {
         style: style_of(words),
         time: FrameTime::Hidden,
         filter: Some(filter_of(words)),
+        once: false,
         any_sapi: false,
         is_colored: false,
         count: words.value("--count", "").parse().ok(),

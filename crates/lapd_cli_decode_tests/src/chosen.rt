@@ -92,6 +92,7 @@ fn style_of(words: &str) -> FrameStyle {
             call: None,
             only_violations: false,
         }),
+        once: false,
         any_sapi: false,
         is_colored: false,
         count: words.next().unwrap_or("").parse().ok(),

@@ -24,7 +24,7 @@ use Rattle.lapd_cli_render.specs.declared.Packet.{Packet as JsonPacket}
 use Rattle.lapd_cli_ladder.specs.Words.{frame_words, known_words}
 use Rattle.lapd_cli_frames.specs.declared.style.Style.{Style}
 use Rattle.lapd_cli_frames.specs.declared.style.Style.TheVariants.{Plain, Named, Brief, Json, NamedJson}
-use Rattle.lapd_cli_frames.specs.Senders.{role_by_kind, sender_by_kind, sender_of_control, sender_of_role}
+use Rattle.lapd_follow.specs.Senders.{role_by_kind, sender_by_kind, sender_of_control, sender_of_role}
 use Rattle.lapd_cli_frames.specs.ShownText.{shown_text}
 
 -- ---- A frame names its sender.

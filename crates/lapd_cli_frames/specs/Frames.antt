@@ -173,7 +173,7 @@ after_heard packet from octets s = record s {
 
 -- the text of a frame: nothing if it is filtered out; a ladder shows what is known after it
 abbrev pub frame_text : Packet → Option Side → List ℕ → Printing → List ℕ
-frame_text packet from octets s = if takes_by s.how.filter
+frame_text packet from octets s = if takes_by s.how.once s.how.filter
     (said_by (followed_packet packet) from octets s.listening) octets
     then text_with (said_by (followed_packet packet) from octets s.listening) packet from octets
     (after_heard packet from octets s)
@@ -181,7 +181,7 @@ frame_text packet from octets s = if takes_by s.how.filter
 
 -- what is known after it: each frame is followed
 abbrev pub after_frame : Packet → Option Side → List ℕ → Printing → Printing
-after_frame packet from octets s = if takes_by s.how.filter
+after_frame packet from octets s = if takes_by s.how.once s.how.filter
     (said_by (followed_packet packet) from octets s.listening) octets
     then after_shown packet.moment (after_heard packet from octets s)
     else after_heard packet from octets s

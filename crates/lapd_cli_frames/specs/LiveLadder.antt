@@ -20,6 +20,7 @@ ladder_style = record {
   style = Plain;
   time = Relative;
   filter = None;
+  once = false;
   any_sapi = false;
   is_colored = false;
   count = None;

@@ -12,14 +12,13 @@ use crate::drawn::{drawn_part, put_text};
 use crate::frame_style::{Drawing, FrameStyle, Layout};
 use crate::frame_time::either;
 use crate::missing::{Missing, put_missing};
-use crate::senders::sender_by_kind;
 use crate::shown_text::{write_other, write_unsent};
 use crate::style::Style;
 use crate::tables::put_tables;
 use lapd_cli_ladder::FrameToDraw;
 use lapd_cli_render::Packet;
 use lapd_cli_script::{LineFault, ScriptFault};
-use lapd_follow::{Listener, Remarks};
+use lapd_follow::{Listener, Remarks, sender_by_kind};
 use lapd_frame::Side;
 use lapd_zone::Zone;
 use std::alloc::{AllocError, Global};
@@ -57,7 +56,7 @@ pub struct FramePrinter {
     is_noted: bool,
     /// How many datagrams to the port of GSMTAP were not GSMTAP.
     strangers: u64,
-    /// How many frames have a kind and a C/R bit that fit the chosen sender, and that do not.
+    /// How many frames have a kind and a C/R bit that fit their named sender, and that do not.
     fits: u64,
     misfits: u64,
     printed: u64,
@@ -189,7 +188,8 @@ impl FramePrinter {
         is_first
     }
 
-    /// Counts whether the kind and C/R bit of octets fit a sender that an option chose.
+    /// Counts whether the kind and C/R bit of octets fit a sender that an option, a mark or a capture
+    /// names.
     pub fn see_choice(&mut self, from: Option<Side>, octets: &[u8])
         ensures { self.new ≡ self.old }
     {
@@ -207,6 +207,12 @@ impl FramePrinter {
     /// Whether no kind and C/R bit of octets fits the chosen sender, and one does not.
     pub fn is_misfit(&self) -> bool {
         self.fits == 0 && self.misfits > 0
+    }
+
+    /// Whether the C/R bits of both directions are those of one side: of the kinds and C/R bits that
+    /// show a sender, some fit the named one, and a third or more do not.
+    pub fn is_one_sided(&self) -> bool {
+        self.fits > 0 && self.misfits > 0 && self.misfits >= self.fits / 2
     }
 
     /// Counts a datagram to the port of GSMTAP that is not GSMTAP.

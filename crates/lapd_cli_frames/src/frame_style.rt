@@ -1,6 +1,6 @@
 ghost use Rattle.std.specs.Prelude.{◌≡◌};
 ghost use Rattle.lapd_cli_frames.specs.Drawn.{ladder_of};
-ghost use Rattle.lapd_cli_frames.specs.Filter.{reaches, takes_by, takes_said};
+ghost use Rattle.lapd_cli_frames.specs.Filter.{is_again, is_sent_again, reaches, takes_by, takes_filtered, takes_said};
 ghost use Rattle.lapd_cli_frames.specs.Frames.{said_if};
 
 use crate::call_filter::is_of_call;
@@ -8,7 +8,7 @@ use crate::frame_time::FrameTime;
 use crate::style::Style;
 use lapd_cli_ladder::LadderStyle;
 use lapd_filter::Filter;
-use lapd_follow::Remarks;
+use lapd_follow::{Remark, Remarks};
 
 /// The layout of the output.
 #[derive(Clone, Copy, Debug, PartialEq, Eq)]
@@ -43,6 +43,8 @@ pub struct FrameStyle {
     pub time: FrameTime,
     /// Which frames are printed; all if `None`.
     pub filter: Option<Filter>,
+    /// Whether I frames that are sent again are left out, if links are followed.
+    pub once: bool,
     /// Whether octets with a SAPI other than 0, 16 and 63 are read as frames, and not as fault F3.
     pub any_sapi: bool,
     /// Whether trace lines are printed in the color of their sender, or of a violation.
@@ -58,6 +60,7 @@ impl FrameStyle {
         style: Style::Plain,
         time: FrameTime::Hidden,
         filter: None,
+        once: false,
         any_sapi: false,
         is_colored: false,
         count: None,
@@ -75,12 +78,13 @@ impl FrameStyle {
 
     /// Whether a frame of these octets, with these remarks if links are followed, is printed.
     pub(crate) fn takes(&self, is_followed: bool, said: &Remarks, octets: &[u8]) -> bool
-        ensures { result ≡ takes_by self.now.filter (said_if is_followed said.now) octets.now }
+        ensures { result ≡ takes_by self.now.once self.now.filter (said_if is_followed said.now)
+            octets.now }
     {
-        match &self.filter {
-            None => true,
-            Some(filter) => takes_said(filter, is_followed, said, octets),
+        if self.once && is_sent_again(is_followed, said) {
+            return false;
         }
+        takes_filtered(&self.filter, is_followed, said, octets)
     }
 
     /// Whether the output ends after so many printed frames.
@@ -91,6 +95,41 @@ impl FrameStyle {
             None => false,
             Some(count) => count <= printed,
         }
+    }
+}
+
+/// Whether the remarks on a frame, if links are followed, show that it is sent again.
+fn is_sent_again(is_followed: bool, said: &Remarks) -> bool
+    ensures { result ≡ is_sent_again (said_if is_followed said.now) }
+{
+    if is_followed {
+        is_again(&said.ns)
+    } else {
+        false
+    }
+}
+
+/// Whether this is the remark on an I frame that is sent again: it is not acknowledged, or its N(S)
+/// is less than 64 before the next one.
+fn is_again(ns: &Option<Remark>) -> bool
+    ensures { result ≡ is_again ns.now }
+{
+    match *ns {
+        Some(Remark::Repeated) => true,
+        Some(Remark::NsExpected { ns, expected }) => {
+            (expected.value() + 128 - ns.value()) % 128 < 64
+        }
+        _ => false,
+    }
+}
+
+/// Whether this filter, if there is one, takes a frame.
+fn takes_filtered(filter: &Option<Filter>, is_followed: bool, said: &Remarks, octets: &[u8]) -> bool
+    ensures { result ≡ takes_filtered filter.now (said_if is_followed said.now) octets.now }
+{
+    match filter {
+        None => true,
+        Some(filter) => takes_said(filter, is_followed, said, octets),
     }
 }
 

@@ -10,7 +10,7 @@ ghost use Rattle.lapd_follow.specs.Listening.{Listening};
 ghost use Rattle.lapd_cli_render.specs.declared.Packet.{Packet};
 ghost use Rattle.lapd_cli_ladder.specs.Words.{frame_words, known_words};
 ghost use Rattle.lapd_cli_frames.specs.declared.style.Style.{Style};
-ghost use Rattle.lapd_cli_frames.specs.Senders.{role_by_kind, sender_by_kind};
+ghost use Rattle.lapd_follow.specs.Senders.{role_by_kind, sender_by_kind};
 ghost use Rattle.lapd_cli_frames.specs.ShownText.{shown_text};
 
 /// If a side sends a frame that only a command or only a response can be, the octets name that

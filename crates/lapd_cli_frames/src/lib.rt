@@ -37,5 +37,5 @@ pub use lapd_zone::Zone;
 pub use laws::{both_draw_alike, both_read_alike, sender_is_found};
 pub use live_ladder::{FrameDrawer, ladder_head};
 pub use missing::Missing;
-pub use senders::{named_or_by_kind, sender_by_kind};
+pub use senders::named_or_by_kind;
 pub use style::Style;

@@ -9,6 +9,7 @@ pub mod Learning
 pub mod Link
 pub mod Listening
 pub mod Remarks
+pub mod Senders
 pub mod Tallies
 pub mod Teis
 pub mod Texts

@@ -1,5 +1,5 @@
 -- A listener on the line: it follows both ends of each link, and counts the frames that they sent.
-use Rattle.std.specs.Prelude.{ℕ, ◌||◌, Bool, false, List, set, replicate, slice_get, Option, Some, None, Result, Ok, Err}
+use Rattle.std.specs.Prelude.{ℕ, ◌||◌, if◌then◌else◌, Bool, true, false, List, set, replicate, slice_get, Option, Some, None, Result, Ok, Err}
 use Rattle.lapd_frame.specs.declared.Side.{Side}
 use Rattle.lapd_frame.specs.declared.Side.TheVariants.{Network, User}
 use Rattle.lapd_frame.specs.declared.Address.{Address}
@@ -8,13 +8,14 @@ use Rattle.lapd_frame.specs.Frame.{Fields}
 use Rattle.lapd_frame.specs.Reading.{frame_at}
 use Rattle.lapd_follow.specs.declared.packet.Packet.{Packet}
 use Rattle.lapd_follow.specs.declared.remark.Remark.{Remark}
-use Rattle.lapd_follow.specs.declared.remark.Remark.TheVariants.{Begins, NumbersKnown}
+use Rattle.lapd_follow.specs.declared.remark.Remark.TheVariants.{Begins, NumbersKnown, OtherSidesBit}
 use Rattle.lapd_follow.specs.declared.remarks.Remarks.{Remarks}
 use Rattle.lapd_follow.specs.declared.link_tally.LinkTally.{LinkTally}
 use Rattle.lapd_follow.specs.Ends.{one_more}
 use Rattle.lapd_follow.specs.Follower.{LineKnown, is_followed_on, line_after, line_anew, new_line, place_of, said_on_line}
 use Rattle.lapd_follow.specs.Link.{Sighting, sighting}
 use Rattle.lapd_follow.specs.Remarks.{has_violation}
+use Rattle.lapd_follow.specs.Senders.{is_of_other_side}
 use Rattle.lapd_follow.specs.Tallies.{no_tally, tallied}
 
 -- ---- The frames of one link.
@@ -96,7 +97,7 @@ with_frame s l = record {
 abbrev pub listening_anew : Listening → Listening
 listening_anew l = record l { line = line_anew l.line }
 
--- ---- Octets. If they do not form a valid frame, they are not followed.
+-- ---- Octets. If they do not form a valid frame of their sender, they are not followed.
 
 abbrev pub no_remarks : Remarks
 no_remarks = record {
@@ -111,20 +112,36 @@ no_remarks = record {
   conflict = None;
 }
 
-abbrev pub said_of_reading : Packet → Side → Result Fields FrameFault → Listening → Remarks
-said_of_reading packet sender (Ok f) l =
-    said_on_line (sighting packet sender f) l.line
-said_of_reading packet sender (Err fault) l = no_remarks
+-- octets with the C/R bit of the other side (Q.921 3.3.2)
+abbrev pub other_sides_remarks : Remarks
+other_sides_remarks = record no_remarks { bit = Some OtherSidesBit }
 
-abbrev pub after_reading : Packet → Side → Result Fields FrameFault → Listening → Listening
-after_reading packet sender (Ok f) l =
+abbrev pub said_of_fault : Side → List ℕ → Remarks
+said_of_fault sender octets = if is_of_other_side sender octets
+    then other_sides_remarks else no_remarks
+
+abbrev pub after_fault : Side → List ℕ → Listening → Listening
+after_fault sender octets l = if is_of_other_side sender octets
+    then record l { is_violated = true } else l
+
+abbrev pub said_of_reading : Packet → Side → List ℕ → Result Fields FrameFault → Listening
+    → Remarks
+said_of_reading packet sender octets (Ok f) l =
+    said_on_line (sighting packet sender f) l.line
+said_of_reading packet sender octets (Err fault) l = said_of_fault sender octets
+
+abbrev pub after_reading : Packet → Side → List ℕ → Result Fields FrameFault → Listening
+    → Listening
+after_reading packet sender octets (Ok f) l =
     with_frame (sighting packet sender f) l
-after_reading packet sender (Err fault) l = l
+after_reading packet sender octets (Err fault) l = after_fault sender octets l
 
 -- the remarks on the octets that a side sent next
 abbrev pub said_of_octets : Packet → Side → List ℕ → Listening → Remarks
-said_of_octets packet sender octets l = said_of_reading packet sender (frame_at sender octets) l
+said_of_octets packet sender octets l =
+    said_of_reading packet sender octets (frame_at sender octets) l
 
 -- the listener after them
 abbrev pub listening_after : Packet → Side → List ℕ → Listening → Listening
-listening_after packet sender octets l = after_reading packet sender (frame_at sender octets) l
+listening_after packet sender octets l =
+    after_reading packet sender octets (frame_at sender octets) l

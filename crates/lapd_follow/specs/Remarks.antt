@@ -15,7 +15,7 @@ use Rattle.lapd_follow.specs.declared.end.Busy.TheVariants as busy
 use Rattle.lapd_follow.specs.declared.remark.Class.{Class}
 use Rattle.lapd_follow.specs.declared.remark.Class.TheVariants.{Normal, Recovery, Violation}
 use Rattle.lapd_follow.specs.declared.remark.Remark.{Remark}
-use Rattle.lapd_follow.specs.declared.remark.Remark.TheVariants.{Begins, Ends, NumbersKnown, LateUa, UaWithoutCommand, SentReleased, FirstNs, NsExpected, Repeated, RepeatedOtherwise, WindowExceeded, SentToBusy, SentToKnownBusy, NrOutside, SabmeWithoutP, DiscWithoutP, UaWithoutF, BeforeAnswer, Answers, LateResponse, ResponseWithoutPoll, NotAnswered, Manages, Unrequested, NotAutomatic, AssignedTwice, AssignedInUse, TwoResponses}
+use Rattle.lapd_follow.specs.declared.remark.Remark.TheVariants.{Begins, Ends, NumbersKnown, LateUa, UaWithoutCommand, SentReleased, FirstNs, NsExpected, Repeated, RepeatedOtherwise, WindowExceeded, SentToBusy, SentToKnownBusy, NrOutside, SabmeWithoutP, DiscWithoutP, UaWithoutF, OtherSidesBit, BeforeAnswer, Answers, LateResponse, ResponseWithoutPoll, NotAnswered, Manages, Unrequested, NotAutomatic, AssignedTwice, AssignedInUse, TwoResponses}
 use Rattle.lapd_follow.specs.declared.remarks.Remarks.{Remarks}
 use Rattle.lapd_follow.specs.Ends.{EndKnown, one_more, from_end}
 use Rattle.lapd_follow.specs.Exchange.{Exchange, answers_disc, begins_establishment, is_learned}
@@ -40,6 +40,7 @@ class_of (NrOutside nr first last) = Violation
 class_of SabmeWithoutP = Violation
 class_of DiscWithoutP = Violation
 class_of UaWithoutF = Violation
+class_of OtherSidesBit = Violation
 class_of (BeforeAnswer packet) = Violation
 class_of (Answers packet after) = Normal
 class_of LateResponse = Recovery

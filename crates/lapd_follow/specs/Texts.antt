@@ -7,7 +7,7 @@ use Rattle.lapd_follow.specs.declared.identity.Identity.TheVariants.{Request, As
 use Rattle.lapd_follow.specs.declared.remark.Class.{Class}
 use Rattle.lapd_follow.specs.declared.remark.Class.TheVariants.{Normal, Recovery, Violation}
 use Rattle.lapd_follow.specs.declared.remark.Remark.{Remark}
-use Rattle.lapd_follow.specs.declared.remark.Remark.TheVariants.{Begins, Ends, NumbersKnown, LateUa, UaWithoutCommand, SentReleased, FirstNs, NsExpected, Repeated, RepeatedOtherwise, WindowExceeded, SentToBusy, SentToKnownBusy, NrOutside, SabmeWithoutP, DiscWithoutP, UaWithoutF, BeforeAnswer, Answers, LateResponse, ResponseWithoutPoll, NotAnswered, Manages, Unrequested, NotAutomatic, AssignedTwice, AssignedInUse, TwoResponses}
+use Rattle.lapd_follow.specs.declared.remark.Remark.TheVariants.{Begins, Ends, NumbersKnown, LateUa, UaWithoutCommand, SentReleased, FirstNs, NsExpected, Repeated, RepeatedOtherwise, WindowExceeded, SentToBusy, SentToKnownBusy, NrOutside, SabmeWithoutP, DiscWithoutP, UaWithoutF, OtherSidesBit, BeforeAnswer, Answers, LateResponse, ResponseWithoutPoll, NotAnswered, Manages, Unrequested, NotAutomatic, AssignedTwice, AssignedInUse, TwoResponses}
 use Rattle.lapd_follow.specs.declared.remarks.Remarks.{Remarks}
 use Rattle.lapd_follow.specs.Remarks.{class_of}
 
@@ -45,6 +45,7 @@ clause_of (NrOutside nr first last) = codes "3.5.2.3"
 clause_of SabmeWithoutP = codes "5.5.1.2"
 clause_of DiscWithoutP = codes "5.5.3.2"
 clause_of UaWithoutF = codes "5.5.1.2"
+clause_of OtherSidesBit = codes "3.3.2"
 clause_of (BeforeAnswer packet) = codes "5.6.7"
 clause_of (Answers packet after) = codes "3.5.1"
 clause_of LateResponse = codes "5.6.7"
@@ -118,6 +119,7 @@ remark_text (NrOutside nr first last) = codes "N(R) " ++ (decimal nr ++ (codes "
 remark_text SabmeWithoutP = codes "SABME with P=0"
 remark_text DiscWithoutP = codes "DISC with P=0"
 remark_text UaWithoutF = codes "F=0 answers P=1"
+remark_text OtherSidesBit = codes "C/R bit of the other side"
 remark_text (BeforeAnswer packet) = codes "sent before packet " ++ (decimal packet
     ++ codes " is answered")
 remark_text (Answers packet after) = codes "answers packet "

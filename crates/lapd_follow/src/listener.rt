@@ -1,10 +1,11 @@
 ghost use Rattle.std.specs.Prelude.{◌≡◌, replicate, None, IfOk, OnOk, OnErr, option_copied, slice_get};
 ghost use Rattle.lapd_follow.specs.Follower.{place_of, said_on_line, seen_link};
 ghost use Rattle.lapd_follow.specs.Link.{sighting};
-ghost use Rattle.lapd_follow.specs.Listening.{listening_after, listening_anew, new_listening, said_of_octets, tallied_on_line, with_frame};
+ghost use Rattle.lapd_follow.specs.Listening.{listening_after, listening_anew, after_fault, new_listening, said_of_fault, said_of_octets, tallied_on_line, with_frame};
 
 use crate::link_table::{LINKS, place_of};
-use crate::{Follower, LinkFollower, LinkTally, Packet, Remarks};
+use crate::senders::is_of_other_side;
+use crate::{Follower, LinkFollower, LinkTally, Packet, Remark, Remarks};
 use lapd_frame::{Address, Frame, Side, read};
 use std::alloc::{AllocError, Global};
 use std::marker::Model;
@@ -97,7 +98,8 @@ impl Listener {
     }
 
     /// Takes the octets that a side sent next, and returns the remarks on their frame. Octets that
-    /// do not form a valid frame change nothing, and there are no remarks on them.
+    /// do not form a valid frame are not followed. The only remark on them is that they have the C/R
+    /// bit of the other side (Q.921 3.3.2).
     ///
     /// It fails if an allocation fails, and then nothing changes.
     pub fn octets(
@@ -115,6 +117,19 @@ impl Listener {
         let mut said = Remarks::none();
         self.octets_into(packet, sender, octets, &mut said)?;
         Ok(said)
+    }
+
+    /// Takes octets that do not form a valid frame of their sender, and replaces `said` with the
+    /// remark on them.
+    fn see_fault(&mut self, sender: Side, octets: &[u8], said: &mut Remarks)
+        ensures remarks { said.new ≡ said_of_fault sender octets.now }
+        ensures after { self.new ≡ after_fault sender octets.now self.old }
+    {
+        *said = Remarks::none();
+        if is_of_other_side(sender, octets) {
+            said.bit = Some(Remark::OtherSidesBit);
+            self.is_violated = true;
+        }
     }
 
     /// Like [`Listener::octets`], but replaces `said` with the remarks. On error nothing changes.
@@ -135,7 +150,7 @@ impl Listener {
         match read(octets, sender) {
             Ok(frame) => self.frame_into(packet, sender, &frame, said),
             Err(_) => {
-                *said = Remarks::none();
+                self.see_fault(sender, octets, said);
                 Ok(())
             }
         }

@@ -86,6 +86,9 @@ pub enum Remark {
     /// The frame is a UA with F=0, and the SABME or DISC that it answers has P=1 (Q.921 5.5.1.2,
     /// 5.5.3.2).
     UaWithoutF,
+    /// Octets that are not a valid frame of their sender, but have the C/R bit of the other side
+    /// (Q.921 3.3.2): both ends are set up as the same side, or the line is looped.
+    OtherSidesBit,
     /// An I frame with P=0 is sent before the poll in this packet is answered (Q.921 5.6.7).
     BeforeAnswer(u64),
     /// The response answers a poll (Q.921 3.5.1).
@@ -158,6 +161,7 @@ impl Remark {
             | Remark::SabmeWithoutP
             | Remark::DiscWithoutP
             | Remark::UaWithoutF
+            | Remark::OtherSidesBit
             | Remark::BeforeAnswer(_)
             | Remark::NotAutomatic(_)
             | Remark::AssignedTwice { .. }
@@ -187,6 +191,7 @@ impl Remark {
             Remark::SabmeWithoutP => "5.5.1.2",
             Remark::DiscWithoutP => "5.5.3.2",
             Remark::UaWithoutF => "5.5.1.2",
+            Remark::OtherSidesBit => "3.3.2",
             Remark::BeforeAnswer(_) => "5.6.7",
             Remark::Answers { .. } => "3.5.1",
             Remark::LateResponse => "5.6.7",
@@ -239,6 +244,7 @@ impl fmt::Display for Remark {
             Remark::SabmeWithoutP => write!(f, "SABME with P=0"),
             Remark::DiscWithoutP => write!(f, "DISC with P=0"),
             Remark::UaWithoutF => write!(f, "F=0 answers P=1"),
+            Remark::OtherSidesBit => write!(f, "C/R bit of the other side"),
             Remark::BeforeAnswer(packet) => write!(f, "sent before packet {packet} is answered"),
             Remark::Answers {
                 packet,

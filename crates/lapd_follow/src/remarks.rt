@@ -30,7 +30,8 @@ pub struct Remarks {
     pub busy: Option<Remark>,
     /// On the N(R) of an I or S frame.
     pub nr: Option<Remark>,
-    /// On the P bit of a SABME, DISC or I frame, or on the F bit of a UA.
+    /// On the P bit of a SABME, DISC or I frame, on the F bit of a UA, or on the C/R bit of octets
+    /// that are not a valid frame.
     pub bit: Option<Remark>,
     /// The poll that a response answers, or the poll before this one that was not answered.
     pub answer: Option<Remark>,

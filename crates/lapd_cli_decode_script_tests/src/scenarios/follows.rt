@@ -12,6 +12,21 @@ user
     U>N F1 TooShort
 
 lapd decode --follow
+# both ends are set up as the user side, or the line is looped
+user 00817f
+    U>N SAPI 0 TEI 64 C SABME P=1
+net 00817f
+    N>U F4 Undefined 00817f; violation: C/R bit of the other side
+net 008173
+    N>U SAPI 0 TEI 64 R UA F=1; begins establishment 1; answers packet 1
+.
+    SAPI 0 TEI 64: establishments 1
+      U>N I 0, RR 0, RNR 0, REJ 0, SABME 1, DISC 0, UA 0, DM 0, UI 0, FRMR 0, XID 0
+      U>N messages 0, octets 0, repeated 0, polls 1
+      N>U I 0, RR 0, RNR 0, REJ 0, SABME 0, DISC 0, UA 1, DM 0, UI 0, FRMR 0, XID 0
+      N>U messages 0, octets 0, repeated 0, polls 0
+
+lapd decode --follow
 # V(R) is not reset when the link is established again
 user 00817f
     U>N SAPI 0 TEI 64 C SABME P=1
