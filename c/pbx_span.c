@@ -145,7 +145,7 @@ static void start(struct span *span)
 	check_next(span);
 }
 
-/* ---- What a side reports. */
+/* ---- Reports of a side. */
 
 static void report(struct span *span, const lapd_primitive *item, const uint8_t *octets)
 {

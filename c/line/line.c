@@ -65,7 +65,7 @@ bool line_ends(char *text, const char *word)
 	return true;
 }
 
-/* ---- What happens. */
+/* ---- Events. */
 
 static void drop_waiting(lapd_line *line)
 {
@@ -303,7 +303,7 @@ void lapd_line_close(lapd_line *line)
 	free(line);
 }
 
-/* ---- What a program reads. */
+/* ---- The state of a line. */
 
 int lapd_line_is_up(const lapd_line *line)
 {
