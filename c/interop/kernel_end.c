@@ -149,13 +149,15 @@ static struct link *link_of(const struct address *address)
 
 /* ---- Numbered messages: the call reference 01 of Q.931, then the number. */
 
-/* It begins with the first message of the other end. Before that, the other end may establish the
- * link again, because it has not received the UA, and layer 2 would drop what waits. */
+/* The network begins after the first message of the terminal. Before that, the terminal may establish
+ * the link again, because it has not received the UA, and layer 2 would drop what waits. */
 static void send_numbered(struct link *link)
 {
 	uint8_t message[MOST_MESSAGE] = { 0x08, 0x01 };
 
-	while (link->is_up && link->received > 0 && link->sent < options.send && link->sent < link->received + AHEAD) {
+	if (options.is_network && link->received == 0)
+		return;
+	while (link->is_up && link->sent < options.send && link->sent < link->received + AHEAD) {
 		for (int place = 0; place < 4; place++)
 			message[2 + place] = (uint8_t)(link->sent >> (24 - 8 * place));
 		request(link, DL_DATA_REQ, message, options.octets);
